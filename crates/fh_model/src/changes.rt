@@ -1,0 +1,44 @@
+use crate::{Copies, Items, Names, NoMemory};
+
+/// What stands at a place of a tree.
+#[derive(Debug, Drop)]
+pub enum Node {
+    Folder { id: u64 },
+}
+
+/// One change of a namespace's tree.
+#[derive(Debug, Drop)]
+pub enum Change {
+    /// The node stands at the names from now on.
+    Put { names: Names, node: Node },
+
+    /// Nothing stands at the names or under them any more.
+    Gone { names: Names },
+}
+
+/// The changes of a namespace, the oldest first.
+pub type Changes = Items<Change>;
+
+impl Copies for Node {
+    fn copy(&self) -> Result<Node, NoMemory> {
+        match self {
+            Node::Folder { id } => Ok(Node::Folder { id: *id }),
+        }
+    }
+}
+
+impl Copies for Change {
+    fn copy(&self) -> Result<Change, NoMemory> {
+        match self {
+            Change::Put { names, node } => {
+                let names = names.copy()?;
+                let node = node.copy()?;
+                Ok(Change::Put { names, node })
+            }
+            Change::Gone { names } => {
+                let names = names.copy()?;
+                Ok(Change::Gone { names })
+            }
+        }
+    }
+}

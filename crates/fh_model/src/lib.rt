@@ -1,0 +1,29 @@
+//! The plain types of the host, and in specs/ the definitions of what it does.
+//!
+//! Nothing here reads, writes or keeps anything: a type is what a contract can name, and the definitions are what
+//! the contracts of every other crate are told in.
+#![tactic(auto)]
+
+mod changes;
+mod commands;
+mod items;
+mod limits;
+mod memory;
+mod names;
+mod replies;
+mod rows;
+mod state;
+mod text;
+
+pub use changes::{Change, Changes, Node};
+pub use commands::{Act, Cmd};
+pub use items::{Copies, Items, copy_all};
+pub use limits::{
+    LAST_SECOND, NAME_MAX_BYTES, REQUESTS_MAX, SPENT_AT, TOKEN_MAX_BYTES, TOKEN_MIN_BYTES,
+};
+pub use memory::NoMemory;
+pub use names::{Name, Names, Tags};
+pub use replies::{Entry, Refusal, Reply};
+pub use rows::{Members, Row};
+pub use state::{Namespace, Next, User};
+pub use text::Text;

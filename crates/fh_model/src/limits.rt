@@ -1,0 +1,17 @@
+/// The last second that a clock tells or a command carries: 9999-12-31T23:59:59Z.
+pub const LAST_SECOND: u64 = 253_402_300_799;
+
+/// The most bytes of a name.
+pub const NAME_MAX_BYTES: usize = 255;
+
+/// The fewest bytes of a token.
+pub const TOKEN_MIN_BYTES: usize = 8;
+
+/// The most bytes of a token.
+pub const TOKEN_MAX_BYTES: usize = 64;
+
+/// The requests of one connection, after the last of which it ends.
+pub const REQUESTS_MAX: u64 = 1_000_000;
+
+/// The number at which a counter or the length of a namespace is spent: each act is refused from there on.
+pub const SPENT_AT: u64 = 1 << 62;
