@@ -1,0 +1,6 @@
+pub mod Causes
+pub mod Disk
+pub mod Bytes
+pub mod Replay
+pub mod Memory
+pub mod Seconds
