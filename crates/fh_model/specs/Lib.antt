@@ -1,0 +1,9 @@
+pub mod Connection
+pub mod FolderRequests
+pub mod History
+pub mod Json
+pub mod Keys
+pub mod Paths
+pub mod ReplyText
+pub mod State
+pub mod Step

@@ -1,0 +1,103 @@
+ghost use Rattle.std.specs.Prelude.{◌≡◌, [], IfOk};
+ghost use Rattle.fh_model.specs.State.{opening};
+ghost use Rattle.fh_model.specs.History.{Kept, state_of, next_of, reply_of};
+
+use crate::machine::{Done, Machine};
+use fh_model::{Cmd, Copies, NoMemory, Reply, copy_all};
+use std::alloc::Global;
+use std::marker::Model;
+use std::sync::Arc;
+
+/// A state of the machine that never changes, with the commands that were applied since it was made by `empty` or
+/// `forget`. Contracts see the state that it started from and these commands.
+#[derive(Drop)]
+pub struct Image {
+    start: Arc<Machine, Global>,
+    machine: Machine,
+    history: Vec<Cmd>,
+}
+
+impl Model for Image {
+    ghost use Rattle.std.specs.Prelude.{◌≡◌};
+    ghost use Rattle.std.specs.Arc.{arc_value};
+    ghost use Rattle.fh_model.specs.History.{Kept, state_after};
+
+    ghost Value = { Kept };
+
+    ghost view = { λ image. record { start = arc_value image.start; history = image.history.items } };
+
+    ghost invariant = { λ image. image.machine ≡ state_after (arc_value image.start) image.history.items };
+}
+
+impl Image {
+    /// The image of a new store.
+    pub fn empty(alloc: Global) -> Result<Image, NoMemory>
+        ensures start { IfOk result (λ image. image.start ≡ opening) }
+        ensures history { IfOk result (λ image. image.history ≡ []) }
+    {
+        let machine = Machine::opening(alloc)?;
+        let start = Arc::new(alloc, machine.copy()?)?;
+        Ok(Image {
+            start,
+            machine,
+            history: Vec::new(alloc),
+        })
+    }
+
+    /// The same state, keeping no command.
+    pub fn forget(&self) -> Result<Image, NoMemory>
+        ensures start { IfOk result (λ image. image.start ≡ state_of self.now) }
+        ensures history { IfOk result (λ image. image.history ≡ []) }
+    {
+        let alloc = *self.history.allocator();
+        let start = Arc::new(alloc, self.machine.copy()?)?;
+        Ok(Image {
+            start,
+            machine: self.machine.copy()?,
+            history: Vec::new(alloc),
+        })
+    }
+
+    /// An equal image.
+    pub fn copy(&self) -> Result<Image, NoMemory>
+        ensures { IfOk result (λ copy. copy ≡ self.now) }
+    {
+        let history = copy_all(*self.history.allocator(), &self.history)?;
+        Ok(Image {
+            start: Arc::try_clone(&self.start)?,
+            machine: self.machine.copy()?,
+            history,
+        })
+    }
+
+    /// The image after a command, and the reply. Where the command is refused and does not enter, it is the same.
+    #[tactic(auto, using(fh_model::proofs::Runs::state_after_more))]
+    pub fn apply(&self, cmd: &Cmd) -> Result<(Image, Reply), NoMemory>
+        ensures image { IfOk result (λ done. done.0 ≡ next_of self.now cmd.now) }
+        ensures reply { IfOk result (λ done. done.1 ≡ reply_of self.now cmd.now) }
+    {
+        let Done { next, reply } = self.machine.step(cmd)?;
+        let Some(machine) = next else {
+            return Ok((self.copy()?, reply));
+        };
+        let mut history = copy_all(*self.history.allocator(), &self.history)?;
+        history.push(cmd.copy()?)?;
+        let start = Arc::try_clone(&self.start)?;
+        Ok((
+            Image {
+                start,
+                machine,
+                history,
+            },
+            reply,
+        ))
+    }
+
+    /// The reply that a command would be given.
+    pub fn settle(&self, cmd: &Cmd) -> Result<Reply, NoMemory>
+        ensures { IfOk result (λ reply. reply ≡ reply_of self.now cmd.now) }
+    {
+        let done = self.machine.step(cmd)?;
+        Ok(done.reply)
+    }
+}
