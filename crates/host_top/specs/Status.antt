@@ -15,6 +15,17 @@ line_of Cut = codes "filehost: input cut"
 line_of Bad = codes "filehost: bad request"
 line_of Spent = codes "filehost: too many requests"
 
+-- the program's exit codes
+abbrev pub code_of : Status → ℕ
+code_of Done = 0
+code_of Usage = 2
+code_of NoMemory = 5
+code_of ReadFault = 6
+code_of WriteFault = 7
+code_of Cut = 8
+code_of Bad = 9
+code_of Spent = 10
+
 abbrev pub status_of : ConnEnd → Status
 status_of end.Ended = Done
 status_of end.Cut = Cut

@@ -4,8 +4,10 @@
 
 mod pipe;
 mod status;
+#[cfg(test)]
+mod tests;
 mod words;
 
 pub use pipe::run_pipe;
-pub use status::{Status, status_line};
+pub use status::{Status, exit_code, status_line};
 pub use words::{Plan, WordsFault, read_words};

@@ -1,5 +1,5 @@
 ghost use Rattle.std.specs.Prelude.{◌≡◌, IfOk};
-ghost use Rattle.host_top.specs.Status.{line_of};
+ghost use Rattle.host_top.specs.Status.{code_of, line_of};
 
 use fh_model::{NoMemory, Text};
 use std::alloc::Global;
@@ -47,4 +47,20 @@ pub fn status_line(alloc: Global, status: &Status) -> Result<Text, NoMemory>
         Status::Spent => "filehost: too many requests",
     };
     Ok(Text::new(String::from_str(alloc, line)?))
+}
+
+/// The code with which the program ends.
+pub fn exit_code(status: Status) -> u8
+    ensures { result ≡ code_of status }
+{
+    match status {
+        Status::Done => 0,
+        Status::Usage => 2,
+        Status::NoMemory => 5,
+        Status::ReadFault => 6,
+        Status::WriteFault => 7,
+        Status::Cut => 8,
+        Status::Bad => 9,
+        Status::Spent => 10,
+    }
 }
