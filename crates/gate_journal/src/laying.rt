@@ -1,7 +1,7 @@
-ghost use Rattle.std.specs.Prelude.{◌≡◌, ◌≤◌, ◌++◌, ◌∷◌, [], IsTrue, IfOk, IsErrOf};
+ghost use Rattle.std.specs.Prelude.{◌≡◌, ◌≤◌, ◌++◌, ◌∷◌, [], false, IsTrue, IfOk, IsErrOf};
 ghost use Rattle.fh_world.specs.Causes.{Rose};
 ghost use Rattle.gate_journal.specs.Slot.{records, IsAny};
-ghost use Rattle.gate_journal.specs.Journal.{slot_of, Settled, AnyMoment, Keeps};
+ghost use Rattle.gate_journal.specs.Journal.{slot_of, is_pending, Settled, AnyMoment, Keeps};
 
 use crate::journal::OPEN_GATE;
 use crate::{Journal, LayFault, Record};
@@ -17,6 +17,7 @@ pub fn lay<D: Disk>(
     rows: &[Record],
 ) -> Result<Journal, LayFault>
     ensures settled { IfOk result (λ journal. IsTrue D.tells → Settled D.Disk disk.new journal rows.now) }
+    ensures idle { IfOk result (λ journal. is_pending journal ≡ false) }
     ensures slot { IfOk result (λ journal. slot_of journal ≡ slot) }
     ensures any_moment { IsTrue D.tells → AnyMoment D.Disk disk.old disk.new slot IsAny }
     ensures others { IsTrue D.tells → Keeps D.Disk slot disk.old disk.new }

@@ -1,9 +1,9 @@
-ghost use Rattle.std.specs.Prelude.{◌≡◌, ◌<◌, ◌≤◌, ◌+◌, ℕ, length, IsTrue, IfOk, IfSome, IfNone, IsErrOf};
+ghost use Rattle.std.specs.Prelude.{◌≡◌, ◌<◌, ◌≤◌, ◌+◌, ℕ, false, length, IsTrue, IfOk, IfSome, IfNone, IsErrOf};
 ghost use Rattle.std.specs.Int.{w64, to_be_bytes, from_be_bytes};
 ghost use Rattle.fh_world.specs.declared.FileNo.{FileNo};
 ghost use Rattle.fh_world.specs.Causes.{Rose};
 ghost use Rattle.fh_world.specs.Disk.{Rests, LeavesOnly};
-ghost use Rattle.gate_journal.specs.Journal.{slot_of, Settled};
+ghost use Rattle.gate_journal.specs.Journal.{slot_of, is_pending, Settled};
 ghost use Rattle.gate_journal.specs.Slot.{found, Held, Broken, records, length_field, AllShort, IsWhole, IsAtRest};
 
 use crate::journal::OPEN_GATE;
@@ -21,6 +21,7 @@ pub fn open<D: Disk>(
 ) -> Result<(Journal, Vec<Record>), OpenFault>
     ensures held { IfOk result (λ opened. IsTrue D.tells → found (D.seen disk.old slot) ≡ Held opened.1.items) }
     ensures settled { IfOk result (λ opened. IsTrue D.tells → Settled D.Disk disk.new opened.0 opened.1.items) }
+    ensures idle { IfOk result (λ opened. is_pending opened.0 ≡ false) }
     ensures slot { IfOk result (λ opened. slot_of opened.0 ≡ slot) }
     ensures damaged { (place : ℕ) → IsErrOf result (OpenFault.Damaged place) → IsTrue D.tells → found (D.seen disk.old slot) ≡ Broken place }
     ensures rests { Rests (D.seen disk.old) (D.seen disk.new) (D.may_leave disk.old) (D.may_leave disk.new) }
