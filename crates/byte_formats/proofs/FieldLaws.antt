@@ -1,12 +1,12 @@
 -- The laws of the fields.
-use Rattle.std.proofs.Common.{◌≡◌, ℕ, zero, suc, ◌+◌, ◌-◌, ◌^◌, ◌<◌, ◌≤◌, Bool, true, false, cond, eqb, ltb, List, [], ◌∷◌, ◌++◌, length, get_or, take, drop, Option, Some, None, Result, Ok, Err, refl, sym, ap, subst, ◌∙◌, ◌⊎◌, inl, inr, append_assoc, arith}
+use Rattle.std.proofs.Common.{◌≡◌, ℕ, zero, suc, ◌-◌, ◌^◌, ◌<◌, ◌≤◌, Bool, true, false, cond, eqb, ltb, List, [], ◌∷◌, ◌++◌, length, take, drop, Option, Some, None, Ok, Err, refl, sym, ap, subst, ◌∙◌, inl, inr, arith}
 use Rattle.std.specs.Int.{Width, w32, w64, byte_len, from_be_bytes, to_be_bytes}
 use Rattle.std.proofs.lemmas.Bool.{cases_lt, ltb-true, ltb-false, le-ltb}
 use Rattle.std.proofs.lemmas.List.{append-nil, take_at, drop_at, take-append-drop, length-append, length-take, get_or-take, get_or_past}
 use Rattle.std.proofs.lemmas.Nat.{be_bytes_4, be_bytes_8, from_be_bytes-to_be_bytes_4, from_be_bytes-to_be_bytes_8}
-use Rattle.byte_formats.specs.Formats.{◌>>=◌, Reading, Format, follows, both, made, times, times_at, copies, only_kind, or_kind}
-use Rattle.byte_formats.specs.Fields.{IsBytes, octets, octets_at, number, number_at, n32, n64, flag, flag_at, optional, optional_spell, alone}
-use Rattle.byte_formats.proofs.Laws.{IsBytes-append, IsBytes-rest, Took, Begun, Stuck, Stops, Lawful, Kinds, ok_is, follows_lawful, both_lawful, made_lawful, times_lawful, only_kinds, or_kinds, same_lawful}
+use Rattle.byte_formats.specs.Formats.{Format, made, copies, only_kind, or_kind}
+use Rattle.byte_formats.specs.Fields.{IsBytes, octets, number, n32, n64, flag, flag_at, optional, alone}
+use Rattle.byte_formats.proofs.Laws.{IsBytes-append, Took, Stops, Lawful, ok_is, made_lawful, only_kinds, or_kinds, same_lawful}
 
 guard_ok : {A : Type 0} (b : Bool) (d : ℕ) (x y : A) → cond b (Err d) (Ok x) ≡ Ok y → (b ≡ false) × (x ≡ y)
 guard_ok true d x y e = absurd cc
@@ -52,10 +52,15 @@ octets_lawful n = record {
       let short : length bytes < n = ltb-true _ _ g.0 in
       let more = copies (n - length bytes) 0 in
       record {
-        seen = bytes; rest = []; parts = sym (append-nil bytes); count = g.1;
+        seen = bytes;
+        rest = [];
+        parts = sym (append-nil bytes);
+        count = g.1;
         begun = record {
-          value = bytes ++ more; more = more;
-          fits = (omega (arith, length-append bytes more, length-copies (n - length bytes)), IsBytes-append bytes more h (zeros_are (n - length bytes))); parts = refl;
+          value = bytes ++ more;
+          more = more;
+          fits = (omega (arith, length-append bytes more, length-copies (n - length bytes)), IsBytes-append bytes more h (zeros_are (n - length bytes)));
+          parts = refl;
         };
         stuck = tt;
       };
@@ -96,7 +101,7 @@ number_lawful w limit some wide = record {
       let is-bytes : IsBytes front = IsBytes-take (byte_len w) bytes h in
       let back : to_be_bytes w (from_be_bytes w front) ≡ front = wide.back front (omega (arith, length-take (byte_len w) bytes)) is-bytes in
       subst (λ (y : ℕ × List ℕ). Took (number w limit) bytes y) g.1
-          (record { parts = sym (take-append-drop (byte_len w) bytes) ∙ ap (λ (r : List ℕ). r ++ drop (byte_len w) bytes) (sym back); fits = wide.below front is-bytes });
+      (record { parts = sym (take-append-drop (byte_len w) bytes) ∙ ap (λ (r : List ℕ). r ++ drop (byte_len w) bytes) (sym back); fits = wide.below front is-bytes });
   again = λ n rest h.
       let len = wide.len n in
       let long : ltb (length (to_be_bytes w n ++ rest)) (byte_len w) ≡ false = le-ltb _ _ (omega (arith, length-append (to_be_bytes w n) rest)) in
@@ -109,7 +114,10 @@ number_lawful w limit some wide = record {
       let len : length (bytes ++ more) ≡ byte_len w = omega (arith, length-append bytes more, length-copies (byte_len w - length bytes)) in
       let is-bytes : IsBytes (bytes ++ more) = IsBytes-append bytes more h (zeros_are (byte_len w - length bytes)) in
       record {
-        seen = bytes; rest = []; parts = sym (append-nil bytes); count = g.1;
+        seen = bytes;
+        rest = [];
+        parts = sym (append-nil bytes);
+        count = g.1;
         begun = record { value = from_be_bytes w (bytes ++ more); more = more; fits = wide.below (bytes ++ more) is-bytes; parts = wide.back (bytes ++ more) len is-bytes };
         stuck = tt;
       };
@@ -141,7 +149,10 @@ flag_stops [] left h e = record { seen = []; rest = []; parts = refl; count = cc
 flag_stops (zero ∷ rest) left h e = absurd cc
 flag_stops (suc zero ∷ rest) left h e = absurd cc
 flag_stops (suc (suc b) ∷ rest) left h e = record {
-  seen = []; rest = suc (suc b) ∷ rest; parts = refl; count = cc;
+  seen = [];
+  rest = suc (suc b) ∷ rest;
+  parts = refl;
+  count = cc;
   begun = record { value = false; more = 0 ∷ []; fits = tt; parts = refl };
   stuck = λ more. (length (suc (suc b) ∷ more), refl);
 }
@@ -178,7 +189,7 @@ optional_kinds_lawful : {A : Type 0} (f : Format A) → Lawful f → Lawful (opt
 optional_kinds_lawful {A = A} f F =
     let inner = made_lawful (λ (a : A). Some a) (or_else f.some) f (λ a h. refl) F in
     (or_kinds is_some 0 (alone None) (only_kind 1 (made Some (or_else f.some) f)) (λ a h. ap is_some h) (alone_lawful None)
-        (only_kinds is_some 1 (made Some (or_else f.some) f) (λ a h. ap is_some (sym h.1)) inner)).lawful
+    (only_kinds is_some 1 (made Some (or_else f.some) f) (λ a h. ap is_some (sym h.1)) inner)).lawful
 
 optional_reads : {A : Type 0} (f : Format A) (bytes : List ℕ) → (optional f).read bytes ≡ (optional_kinds f).read bytes
 optional_reads f [] = refl

@@ -1,7 +1,6 @@
 -- What is read is spelled so, what is spelled so is read, and the first bad byte is the first one with which nothing is spelled.
-use Rattle.std.proofs.Common.{◌≡◌, ℕ, zero, suc, ◌+◌, ◌-◌, ◌^◌, ◌<◌, ◌≤◌, Bool, true, false, cond, eqb, ltb, List, [], ◌∷◌, ◌++◌, length, get_or, take, drop, Option, Some, None, Result, Ok, Err, refl, sym, ap, subst, ◌∙◌, ◌⊎◌, inl, inr, append_assoc, arith}
-use Rattle.std.specs.Prelude.{OnOk}
-use Rattle.std.specs.List.{flat_map, AllByRecursion}
+use Rattle.std.proofs.Common.{◌≡◌, ℕ, zero, suc, ◌+◌, ◌-◌, ◌<◌, ◌≤◌, Bool, true, false, cond, eqb, List, [], ◌∷◌, ◌++◌, length, take, drop, Result, Ok, Err, refl, sym, ap, subst, ◌∙◌, ◌⊎◌, inl, inr, append_assoc, arith}
+use Rattle.std.specs.List.{flat_map}
 use Rattle.std.proofs.lemmas.Bool.{eqb-true, cases_lt}
 use Rattle.std.proofs.lemmas.List.{append-nil, nil_from_length, length-append, take_at, take-take, take-append-drop}
 use Rattle.std.proofs.lemmas.List.Concat.{flat_map-cons}
@@ -96,7 +95,7 @@ follows_takes {A = A} {B = B} f g F G bytes z h e =
     let u = (G a.0.0 t.fits).takes a.0.1 b.0 (rest_bytes f bytes a.0 h t) b.1 in
     let made_of : (A × B) × List ℕ = ((a.0.0, b.0.0), b.0.1) in
     subst (λ (y : (A × B) × List ℕ). Took (follows f g) bytes y) (ok_is made_of z b.2)
-        (record { parts = t.parts ∙ ap (λ (r : List ℕ). f.spell a.0.0 ++ r) u.parts ∙ sym (append_assoc (f.spell a.0.0) ((g a.0.0).spell b.0.0) b.0.1); fits = (t.fits, u.fits) })
+    (record { parts = t.parts ∙ ap (λ (r : List ℕ). f.spell a.0.0 ++ r) u.parts ∙ sym (append_assoc (f.spell a.0.0) ((g a.0.0).spell b.0.0) b.0.1); fits = (t.fits, u.fits) })
 
 follows_again : {A B : Type 0} (f : Format A) (g : A → Format B) → Lawful f → ((a : A) → f.fits a → Lawful (g a))
     → (z : A × B) (rest : List ℕ) → (follows f g).fits z → (follows f g).read ((follows f g).spell z ++ rest) ≡ Ok (z, rest)
@@ -108,9 +107,14 @@ follows_first f g G bytes left s =
     let v = s.begun.value in
     let end = (g v).spell (g v).some in
     record {
-      seen = s.seen; rest = s.rest; parts = s.parts; count = s.count;
+      seen = s.seen;
+      rest = s.rest;
+      parts = s.parts;
+      count = s.count;
       begun = record {
-        value = (v, (g v).some); more = s.begun.more ++ end; fits = (s.begun.fits, (G v s.begun.fits).some_fits);
+        value = (v, (g v).some);
+        more = s.begun.more ++ end;
+        fits = (s.begun.fits, (G v s.begun.fits).some_fits);
         parts = ap (λ (r : List ℕ). r ++ end) s.begun.parts ∙ append_assoc s.seen s.begun.more end;
       };
       stuck = stuck_first f.read (λ x. (g x.0).read x.1 >>= λ y. Ok ((x.0, y.0), y.1)) s.seen s.rest s.stuck;
@@ -120,11 +124,14 @@ follows_second : {A B : Type 0} (f : Format A) (g : A → Format B) → Lawful f
 follows_second f g F bytes x left t s =
     let front = f.spell x.0 in
     record {
-      seen = front ++ s.seen; rest = s.rest;
+      seen = front ++ s.seen;
+      rest = s.rest;
       parts = t.parts ∙ ap (λ (r : List ℕ). front ++ r) s.parts ∙ sym (append_assoc front s.seen s.rest);
       count = s.count;
       begun = record {
-        value = (x.0, s.begun.value); more = s.begun.more; fits = (t.fits, s.begun.fits);
+        value = (x.0, s.begun.value);
+        more = s.begun.more;
+        fits = (t.fits, s.begun.fits);
         parts = ap (λ (r : List ℕ). front ++ r) s.begun.parts ∙ sym (append_assoc front s.seen s.begun.more);
       };
       stuck = stuck_second f g (λ a y. Ok ((a.0, y.0), y.1)) x.0 s.seen s.rest (λ more. F.again x.0 more t.fits) s.stuck;
@@ -168,12 +175,15 @@ made_lawful {A = A} {B = B} to from f back F =
           let t = F.takes bytes a.0 h a.1 in
           let made_of : B × List ℕ = (to a.0.0, a.0.1) in
           subst (λ (y : B × List ℕ). Took (made to from f) bytes y) (ok_is made_of z a.2)
-              (record { parts = t.parts ∙ ap (λ (v : A). f.spell v ++ a.0.1) (sym (back a.0.0 t.fits)); fits = fits_to a.0.0 t.fits });
+          (record { parts = t.parts ∙ ap (λ (v : A). f.spell v ++ a.0.1) (sym (back a.0.0 t.fits)); fits = fits_to a.0.0 t.fits });
       again = λ b rest h. rw (F.again (from b) rest h.0) (ap (λ (v : B). Ok (v, rest)) h.1);
       stops = λ bytes left h e.
           let s = F.stops bytes left h (no_last (f.read bytes) (λ x. (to x.0, x.1)) left e) in
           record {
-            seen = s.seen; rest = s.rest; parts = s.parts; count = s.count;
+            seen = s.seen;
+            rest = s.rest;
+            parts = s.parts;
+            count = s.count;
             begun = record { value = to s.begun.value; more = s.begun.more; fits = fits_to s.begun.value s.begun.fits; parts = ap f.spell (back s.begun.value s.begun.fits) ∙ s.begun.parts };
             stuck = stuck_first f.read (λ x. Ok (to x.0, x.1)) s.seen s.rest s.stuck;
           };
@@ -197,7 +207,7 @@ times_takes {A = A} f F (suc n) bytes z h e =
     let made_of : List A × List ℕ = (a.0.0 ∷ b.0.0, b.0.1) in
     let parts : bytes ≡ f.spell a.0.0 ++ (flat_map f.spell b.0.0 ++ b.0.1) = t.parts ∙ ap (λ (r : List ℕ). f.spell a.0.0 ++ r) u.parts in
     subst (λ (y : List A × List ℕ). Took (times f (suc n)) bytes y) (ok_is made_of z b.2)
-        (record { parts = rw flat_map-cons (parts ∙ sym (append_assoc (f.spell a.0.0) (flat_map f.spell b.0.0) b.0.1)); fits = (ap suc u.fits.0, (t.fits, u.fits.1)) })
+    (record { parts = rw flat_map-cons (parts ∙ sym (append_assoc (f.spell a.0.0) (flat_map f.spell b.0.0) b.0.1)); fits = (ap suc u.fits.0, (t.fits, u.fits.1)) })
 
 times_again : {A : Type 0} (f : Format A) → Lawful f → (n : ℕ) (xs : List A) (rest : List ℕ) → (times f n).fits xs → times_at f.read n (flat_map f.spell xs ++ rest) ≡ Ok (xs, rest)
 times_again f F zero [] rest h = refl
@@ -217,9 +227,14 @@ times_stops f F (suc n) bytes left h e =
           let k = copies_fit f F.some_fits n in
           let end = flat_map f.spell (copies n f.some) in
           record {
-            seen = s.seen; rest = s.rest; parts = s.parts; count = s.count;
+            seen = s.seen;
+            rest = s.rest;
+            parts = s.parts;
+            count = s.count;
             begun = record {
-              value = s.begun.value ∷ copies n f.some; more = s.begun.more ++ end; fits = (ap suc k.0, (s.begun.fits, k.1));
+              value = s.begun.value ∷ copies n f.some;
+              more = s.begun.more ++ end;
+              fits = (ap suc k.0, (s.begun.fits, k.1));
               parts = flat_map-cons f.spell s.begun.value (copies n f.some) ∙ ap (λ (r : List ℕ). r ++ end) s.begun.parts ∙ append_assoc s.seen s.begun.more end;
             };
             stuck = stuck_first f.read (λ x. times_at f.read n x.1 >>= λ xs. Ok (x.0 ∷ xs.0, xs.1)) s.seen s.rest s.stuck;
@@ -230,11 +245,14 @@ times_stops f F (suc n) bytes left h e =
           let s = times_stops f F n w.0.1 left (rest_bytes f bytes w.0 h t) second in
           let front = f.spell w.0.0 in
           record {
-            seen = front ++ s.seen; rest = s.rest;
+            seen = front ++ s.seen;
+            rest = s.rest;
             parts = t.parts ∙ ap (λ (r : List ℕ). front ++ r) s.parts ∙ sym (append_assoc front s.seen s.rest);
             count = s.count;
             begun = record {
-              value = w.0.0 ∷ s.begun.value; more = s.begun.more; fits = (ap suc s.begun.fits.0, (t.fits, s.begun.fits.1));
+              value = w.0.0 ∷ s.begun.value;
+              more = s.begun.more;
+              fits = (ap suc s.begun.fits.0, (t.fits, s.begun.fits.1));
               parts = flat_map-cons f.spell w.0.0 s.begun.value ∙ ap (λ (r : List ℕ). front ++ r) s.begun.parts ∙ sym (append_assoc front s.seen s.begun.more);
             };
             stuck = stuck_second f (λ _. times f n) (λ a y. Ok (a.0 ∷ y.0, y.1)) w.0.0 s.seen s.rest (λ more. F.again w.0.0 more t.fits) s.stuck;
@@ -274,22 +292,28 @@ only_stops {A = A} k f F (b ∷ rest) left h e =
       | true ↦ λ is r.
           let s = F.stops rest left (IsBytes-rest b rest h) r in
           record {
-            seen = b ∷ s.seen; rest = s.rest; parts = ap (λ (r : List ℕ). b ∷ r) s.parts; count = s.count;
+            seen = b ∷ s.seen;
+            rest = s.rest;
+            parts = ap (λ (r : List ℕ). b ∷ r) s.parts;
+            count = s.count;
             begun = record { value = s.begun.value; more = s.begun.more; fits = s.begun.fits; parts = sym (ap (λ (c : ℕ). c ∷ f.spell s.begun.value) (eqb-true b k is)) ∙ ap (λ (r : List ℕ). b ∷ r) s.begun.parts };
             stuck = behind b k f.read s.seen s.rest is s.stuck;
           }
       | false ↦ λ is r.
           record {
-            seen = []; rest = b ∷ rest; parts = refl; count = cc;
+            seen = [];
+            rest = b ∷ rest;
+            parts = refl;
+            count = cc;
             begun = record { value = f.some; more = k ∷ f.spell f.some; fits = F.some_fits; parts = refl };
             stuck = λ more. (length (b ∷ more), rw is refl);
           }
     ] in
     go (eqb b k) refl e
- where
-  behind : {A : Type 0} (b k : ℕ) (read : List ℕ → Reading A) (seen rest : List ℕ) → eqb b k ≡ true → Stuck read seen rest → Stuck (only_kind_at k read) (b ∷ seen) rest
-  behind b k read seen [] is s = tt
-  behind b k read seen (c ∷ rest) is s = λ more. ((s more).0, rw is (s more).1)
+  where
+    behind : {A : Type 0} (b k : ℕ) (read : List ℕ → Reading A) (seen rest : List ℕ) → eqb b k ≡ true → Stuck read seen rest → Stuck (only_kind_at k read) (b ∷ seen) rest
+    behind b k read seen [] is s = tt
+    behind b k read seen (c ∷ rest) is s = λ more. ((s more).0, rw is (s more).1)
 
 pub only_kinds : {A : Type 0} (tag : A → ℕ) (k : ℕ) (f : Format A) → ((a : A) → f.fits a → tag a ≡ k) → Lawful f → Kinds tag (only_kind k f)
 only_kinds tag k f is F = record {
@@ -375,14 +399,20 @@ or_stops {A = A} tag k f others is F G (b ∷ rest) left h e =
       | true ↦ λ same r.
           let s = F.stops rest left (IsBytes-rest b rest h) r in
           record {
-            seen = b ∷ s.seen; rest = s.rest; parts = ap (λ (r : List ℕ). b ∷ r) s.parts; count = s.count;
+            seen = b ∷ s.seen;
+            rest = s.rest;
+            parts = ap (λ (r : List ℕ). b ∷ r) s.parts;
+            count = s.count;
             begun = begun_this tag k b f others s.seen is same s.begun;
             stuck = stuck_this k b f.read others.read s.seen s.rest same s.stuck;
           }
       | false ↦ λ other r.
           let s = G.lawful.stops (b ∷ rest) left h r in
           record {
-            seen = s.seen; rest = s.rest; parts = s.parts; count = s.count;
+            seen = s.seen;
+            rest = s.rest;
+            parts = s.parts;
+            count = s.count;
             begun = begun_other tag k b f others s.seen s.rest rest is F G other s.parts s.begun;
             stuck = stuck_other k b f.read others.read s.seen s.rest rest other s.parts s.stuck;
           }
@@ -426,7 +456,10 @@ same_lawful f g reads fits fitting spells some F = record {
   stops = λ bytes left h e.
       let s = F.stops bytes left h (sym (reads bytes) ∙ e) in
       record {
-        seen = s.seen; rest = s.rest; parts = s.parts; count = s.count;
+        seen = s.seen;
+        rest = s.rest;
+        parts = s.parts;
+        count = s.count;
         begun = record { value = s.begun.value; more = s.begun.more; fits = fitting s.begun.value s.begun.fits; parts = sym (spells s.begun.value s.begun.fits) ∙ s.begun.parts };
         stuck = stuck_same f.read g.read s.seen s.rest reads s.stuck;
       };
@@ -450,9 +483,13 @@ byte_stops test some ok (b ∷ rest) left h e =
     let go : (t : Bool) → test b ≡ t → cond t good (Err (length (b ∷ rest))) ≡ Err left → Stops (byte_where test some) (b ∷ rest) left = λ t. elim t as (λ t. test b ≡ t → cond t good (Err (length (b ∷ rest))) ≡ Err left → Stops (byte_where test some) (b ∷ rest) left) [
       | true ↦ λ yes r. absurd cc
       | false ↦ λ not r. record {
-          seen = []; rest = b ∷ rest; parts = refl; count = cc; begun = record { value = some; more = some ∷ []; fits = ok; parts = refl };
-          stuck = λ more. (length (b ∷ more), rw not refl);
-        }
+        seen = [];
+        rest = b ∷ rest;
+        parts = refl;
+        count = cc;
+        begun = record { value = some; more = some ∷ []; fits = ok; parts = refl };
+        stuck = λ more. (length (b ∷ more), rw not refl);
+      }
     ] in
     go (test b) refl e
 
@@ -532,15 +569,15 @@ first_bad {A = A} f bytes seen rest parts begun none stuck =
       before = (begun.value, begun.more, record { fits = begun.fits; parts = ap (λ (r : List ℕ). r ++ begun.more) front ∙ sym begun.parts });
       here = λ lt a more s. next_bad f bytes seen rest parts stuck lt a more s;
     })
- where
-  next_bad : {A : Type 0} (f : Format A) → (bytes seen rest : List ℕ) → bytes ≡ seen ++ rest
-      → ((b : ℕ) (after : List ℕ) → rest ≡ b ∷ after → (a : A) (more : List ℕ) → Spells f (seen ++ b ∷ more) a → ⊥)
-      → length seen < length bytes → (a : A) (more : List ℕ) → Spells f (take (length seen + 1) bytes ++ more) a → ⊥
-  next_bad f bytes seen [] parts stuck lt a more s = absurd (omega (arith, ap length parts, length-append seen []))
-  next_bad f bytes seen (b ∷ after) parts stuck lt a more s =
-      let next : take (length seen + 1) bytes ≡ seen ++ b ∷ [] = rw (parts, sym (append_assoc seen (b ∷ []) after)) (take_at (seen ++ b ∷ []) after (length seen + 1) (length-append seen (b ∷ []))) in
-      let whole : take (length seen + 1) bytes ++ more ≡ seen ++ b ∷ more = ap (λ (r : List ℕ). r ++ more) next ∙ append_assoc seen (b ∷ []) more in
-      stuck b after refl a more (subst (λ (r : List ℕ). Spells f r a) whole s)
+  where
+    next_bad : {A : Type 0} (f : Format A) → (bytes seen rest : List ℕ) → bytes ≡ seen ++ rest
+        → ((b : ℕ) (after : List ℕ) → rest ≡ b ∷ after → (a : A) (more : List ℕ) → Spells f (seen ++ b ∷ more) a → ⊥)
+        → length seen < length bytes → (a : A) (more : List ℕ) → Spells f (take (length seen + 1) bytes ++ more) a → ⊥
+    next_bad f bytes seen [] parts stuck lt a more s = absurd (omega (arith, ap length parts, length-append seen []))
+    next_bad f bytes seen (b ∷ after) parts stuck lt a more s =
+        let next : take (length seen + 1) bytes ≡ seen ++ b ∷ [] = rw (parts, sym (append_assoc seen (b ∷ []) after)) (take_at (seen ++ b ∷ []) after (length seen + 1) (length-append seen (b ∷ []))) in
+        let whole : take (length seen + 1) bytes ++ more ≡ seen ++ b ∷ more = ap (λ (r : List ℕ). r ++ more) next ∙ append_assoc seen (b ∷ []) more in
+        stuck b after refl a more (subst (λ (r : List ℕ). Spells f r a) whole s)
 
 ok_or_err : {A : Type 0} (r : Result A ℕ) (a : A) (left : ℕ) → r ≡ Ok a → r ≡ Err left → ⊥
 ok_or_err r a left e d = absurd cc
@@ -552,33 +589,36 @@ whole_stops {A = A} f F bytes left h e =
       | inl first ↦
           let s = F.stops bytes left h first in
           rw s.count (first_bad f bytes s.seen s.rest s.parts s.begun none
-              (λ b after is a more spells. stuck_not f F s.seen s.rest s.stuck b after is a more spells))
+          (λ b after is a more spells. stuck_not f F s.seen s.rest s.stuck b after is a more spells))
       | inr w ↦
           let t = F.takes bytes w.0 h w.1 in
           let g = end_err w.0.0 w.0.1 left w.2 in
           rw g.3 (first_bad f bytes (f.spell w.0.0) w.0.1 t.parts (record { value = w.0.0; more = []; fits = t.fits; parts = sym (append-nil (f.spell w.0.0)) }) none
-              (λ b after is a more spells. trailing f F w.0.0 t.fits b a more spells))
+          (λ b after is a more spells. trailing f F w.0.0 t.fits b a more spells))
     ]
- where
-  stuck_not : {A : Type 0} (f : Format A) → Lawful f → (seen rest : List ℕ) → Stuck f.read seen rest → (b : ℕ) (after : List ℕ) → rest ≡ b ∷ after → (a : A) (more : List ℕ) → Spells f (seen ++ b ∷ more) a → ⊥
-  stuck_not f F seen [] s b after is a more spells = absurd cc
-  stuck_not f F seen (c ∷ rest) s b after is a more spells =
-      let same : c ≡ b = head_is c b rest after is in
-      let stop = s more in
-      ok_or_err (f.read (seen ++ b ∷ more)) (a, []) stop.0 (reads_all f F a (seen ++ b ∷ more) spells) (subst (λ (d : ℕ). f.read (seen ++ d ∷ more) ≡ Err stop.0) same stop.1)
-  not_empty : (b : ℕ) (more : List ℕ) → [] ≡ b ∷ more → ⊥
-  not_empty b more e = absurd cc
-  two_ends : {A : Type 0} (r : Reading A) (c a : A) (b : ℕ) (more : List ℕ) → r ≡ Ok (c, []) → r ≡ Ok (a, b ∷ more) → ⊥
-  two_ends {A = A} r c a b more e d =
-      let x : A × List ℕ = (c, []) in
-      let y : A × List ℕ = (a, b ∷ more) in
-      let two : [] ≡ b ∷ more = ap (λ (z : A × List ℕ). z.1) (ok_is x y (sym e ∙ d)) in
-      not_empty b more two
-  trailing : {A : Type 0} (f : Format A) → Lawful f → (a : A) → f.fits a → (b : ℕ) (c : A) (more : List ℕ) → Spells f (f.spell a ++ b ∷ more) c → ⊥
-  trailing {A = A} f F a fits b c more spells =
-      let one = reads_all f F c (f.spell a ++ b ∷ more) spells in
-      let two = F.again a (b ∷ more) fits in
-      two_ends (f.read (f.spell a ++ b ∷ more)) c a b more one two
+  where
+    stuck_not : {A : Type 0} (f : Format A) → Lawful f → (seen rest : List ℕ) → Stuck f.read seen rest → (b : ℕ) (after : List ℕ) → rest ≡ b ∷ after → (a : A) (more : List ℕ) → Spells f (seen ++ b ∷ more) a → ⊥
+    stuck_not f F seen [] s b after is a more spells = absurd cc
+    stuck_not f F seen (c ∷ rest) s b after is a more spells =
+        let same : c ≡ b = head_is c b rest after is in
+        let stop = s more in
+        ok_or_err (f.read (seen ++ b ∷ more)) (a, []) stop.0 (reads_all f F a (seen ++ b ∷ more) spells) (subst (λ (d : ℕ). f.read (seen ++ d ∷ more) ≡ Err stop.0) same stop.1)
+
+    not_empty : (b : ℕ) (more : List ℕ) → [] ≡ b ∷ more → ⊥
+    not_empty b more e = absurd cc
+
+    two_ends : {A : Type 0} (r : Reading A) (c a : A) (b : ℕ) (more : List ℕ) → r ≡ Ok (c, []) → r ≡ Ok (a, b ∷ more) → ⊥
+    two_ends {A = A} r c a b more e d =
+        let x : A × List ℕ = (c, []) in
+        let y : A × List ℕ = (a, b ∷ more) in
+        let two : [] ≡ b ∷ more = ap (λ (z : A × List ℕ). z.1) (ok_is x y (sym e ∙ d)) in
+        not_empty b more two
+
+    trailing : {A : Type 0} (f : Format A) → Lawful f → (a : A) → f.fits a → (b : ℕ) (c : A) (more : List ℕ) → Spells f (f.spell a ++ b ∷ more) c → ⊥
+    trailing {A = A} f F a fits b c more spells =
+        let one = reads_all f F c (f.spell a ++ b ∷ more) spells in
+        let two = F.again a (b ∷ more) fits in
+        two_ends (f.read (f.spell a ++ b ∷ more)) c a b more one two
 
 -- there is one such place
 not_before : {A : Type 0} (f : Format A) (bytes : List ℕ) (p q : ℕ) → IsFirstBad f bytes p → IsFirstBad f bytes q → p < q → ⊥
@@ -586,8 +626,8 @@ not_before f bytes p q P Q lt =
     let front = take q bytes in
     let w = Q.before in
     let split : front ++ w.1 ≡ take (p + 1) bytes ++ (drop (p + 1) front ++ w.1) =
-        ap (λ (r : List ℕ). r ++ w.1) (sym (take-append-drop (p + 1) front)) ∙ append_assoc (take (p + 1) front) (drop (p + 1) front) w.1
-        ∙ ap (λ (r : List ℕ). r ++ (drop (p + 1) front ++ w.1)) (take-take (p + 1) q bytes (omega arith)) in
+    ap (λ (r : List ℕ). r ++ w.1) (sym (take-append-drop (p + 1) front)) ∙ append_assoc (take (p + 1) front) (drop (p + 1) front) w.1
+    ∙ ap (λ (r : List ℕ). r ++ (drop (p + 1) front ++ w.1)) (take-take (p + 1) q bytes (omega arith)) in
     let le : q ≤ length bytes = Q.within in
     P.here (omega arith) w.0 (drop (p + 1) front ++ w.1) (subst (λ (r : List ℕ). Spells f r w.0) split w.2)
 

@@ -6,3 +6,4 @@ pub mod ListLaws
 pub mod TextLoop
 pub mod Loop
 pub mod Moments
+pub mod Writing

@@ -1,11 +1,11 @@
 -- A number of eight bytes that is at most a limit, by its bytes from the highest on.
-use Rattle.std.proofs.Common.{◌≡◌, ℕ, zero, suc, ◌+◌, ◌*◌, ◌-◌, ◌^◌, ◌<◌, ◌≤◌, Bool, true, false, cond, eqb, ltb, leb, List, [], ◌∷◌, ◌++◌, length, get_or, take, drop, Option, Some, None, Result, Ok, Err, refl, sym, ap, subst, ◌∙◌, ◌⊎◌, inl, inr, append_assoc, arith}
-use Rattle.std.specs.Int.{Width, w64, byte_len, from_be_bytes, to_be_bytes}
+use Rattle.std.proofs.Common.{◌≡◌, ℕ, zero, suc, ◌+◌, ◌*◌, ◌<◌, ◌≤◌, Bool, true, false, cond, eqb, ltb, leb, List, [], ◌∷◌, length, get_or, take, drop, Option, Some, None, Ok, Err, refl, sym, ap, subst, ◌∙◌, inl, inr, arith}
+use Rattle.std.specs.Int.{w64, from_be_bytes, to_be_bytes}
 use Rattle.std.proofs.Math.Nat.{mul-le-mul_right, suc-mul}
-use Rattle.std.proofs.lemmas.Bool.{cases_lt, ltb-true, ltb-false, le-ltb, lt-ltb, leb-true, leb-false, le-leb, eqb-true, eqb-false, eq-eqb}
-use Rattle.byte_formats.specs.Formats.{◌>>=◌, Reading, Format, follows, both, made, byte_where, pick, copies}
-use Rattle.byte_formats.specs.Fields.{IsBytes, octets, octets_at, n64, number_at, alone, over_at, last_second_bytes, last_second, moment, moment_at, unless_over}
-use Rattle.byte_formats.proofs.Laws.{IsBytes-rest, Took, Begun, Stuck, Stops, Lawful, ok_is, follows_lawful, made_lawful, byte_lawful, same_lawful}
+use Rattle.std.proofs.lemmas.Bool.{cases_lt, le-ltb, lt-ltb, leb-true, le-leb, eqb-true, eqb-false, eq-eqb}
+use Rattle.byte_formats.specs.Formats.{◌>>=◌, Reading, Format, follows, made, byte_where, pick}
+use Rattle.byte_formats.specs.Fields.{IsBytes, octets, octets_at, number_at, alone, over_at, last_second_bytes, last_second, moment, moment_at, unless_over}
+use Rattle.byte_formats.proofs.Laws.{IsBytes-rest, Lawful, follows_lawful, made_lawful, byte_lawful, same_lawful}
 use Rattle.byte_formats.proofs.FieldLaws.{octets_lawful, alone_lawful, wide64}
 
 -- ---- what is at most a limit, byte by byte
@@ -23,8 +23,8 @@ unfolding upto
 upto_lawful [] = alone_lawful []
 upto_lawful (l ∷ ls) =
     made_lawful (λ (x : ℕ × List ℕ). x.0 ∷ x.1) (λ bs. (get_or bs 0 0, drop 1 bs)) (follows (byte_where (λ b. leb b l) 0) (λ b. pick (eqb b l) (upto ls) (octets (length ls)))) (λ _ _. refl)
-        (follows_lawful (byte_where (λ b. leb b l) 0) (λ b. pick (eqb b l) (upto ls) (octets (length ls))) (byte_lawful (λ b. leb b l) 0 (le-leb 0 l (omega arith)))
-            (λ b _. pick_lawful (eqb b l) (upto ls) (octets (length ls)) (upto_lawful ls) (octets_lawful (length ls))))
+    (follows_lawful (byte_where (λ b. leb b l) 0) (λ b. pick (eqb b l) (upto ls) (octets (length ls))) (byte_lawful (λ b. leb b l) 0 (le-leb 0 l (omega arith)))
+    (λ b _. pick_lawful (eqb b l) (upto ls) (octets (length ls)) (upto_lawful ls) (octets_lawful (length ls))))
 
 -- ---- the number that bytes stand for
 
@@ -60,16 +60,16 @@ upto_fits (l ∷ ls) (b ∷ bs) hl hb len le =
           let not : eqb b l ≡ false = grind arith in
           ((yes, rw not (same, IsBytes-rest b bs hb)), refl)
       | inr ge ↦ elim (cases_lt l b) [
-          | inl gt ↦
-              let high : suc l * width (length ls) ≤ b * width (length ls) = mul-le-mul_right (width (length ls)) gt in
-              absurd (omega (arith, high, suc-mul l (width (length ls)), value_below ls (IsBytes-rest l ls hl), wide))
-          | inr le2 ↦
-              let is : b ≡ l = omega arith in
-              let yes : leb b l ≡ true = le-leb b l (omega arith) in
-              let one : eqb b l ≡ true = eq-eqb b l is in
-              let times : b * width (length ls) ≡ l * width (length ls) = ap (λ (k : ℕ). k * width (length ls)) is in
-              ((yes, rw one (upto_fits ls bs (IsBytes-rest l ls hl) (IsBytes-rest b bs hb) same (omega (arith, times, wide)))), refl)
-        ]
+        | inl gt ↦
+            let high : suc l * width (length ls) ≤ b * width (length ls) = mul-le-mul_right (width (length ls)) gt in
+            absurd (omega (arith, high, suc-mul l (width (length ls)), value_below ls (IsBytes-rest l ls hl), wide))
+        | inr le2 ↦
+            let is : b ≡ l = omega arith in
+            let yes : leb b l ≡ true = le-leb b l (omega arith) in
+            let one : eqb b l ≡ true = eq-eqb b l is in
+            let times : b * width (length ls) ≡ l * width (length ls) = ap (λ (k : ℕ). k * width (length ls)) is in
+            ((yes, rw one (upto_fits ls bs (IsBytes-rest l ls hl) (IsBytes-rest b bs hb) same (omega (arith, times, wide)))), refl)
+      ]
     ]
 
 record Within (ls bs : List ℕ) : Type 0 where
@@ -93,7 +93,8 @@ upto_within (l ∷ ls) bs hl h =
       | true ↦ λ is k.
           let w = upto_within ls r (IsBytes-rest l ls hl) k in
           record {
-            bytes = IsBytes-cons b r low w.bytes; len = ap suc w.len;
+            bytes = IsBytes-cons b r low w.bytes;
+            len = ap suc w.len;
             le = rw (w.len, eqb-true b l is) (omega (arith, w.le));
           }
       | false ↦ λ not k.
@@ -103,9 +104,9 @@ upto_within (l ∷ ls) bs hl h =
           record { bytes = IsBytes-cons b r low k.1; len = ap suc k.0; le = rw k.0 (omega (arith, high, suc-mul b (width (length ls)), subst (λ (n : ℕ). value r < width n) k.0 rest)) }
     ] in
     subst (λ (s : List ℕ). Within (l ∷ ls) s) h.1 (go (eqb b l) refl h.0.1)
- where
-  less : (b l : ℕ) → b ≤ l → (b ≡ l → ⊥) → suc b ≤ l
-  less b l le not = elim (cases_lt b l) [ inl lt ↦ lt | inr ge ↦ absurd (not (omega arith)) ]
+  where
+    less : (b l : ℕ) → b ≤ l → (b ≡ l → ⊥) → suc b ≤ l
+    less b l le not = elim (cases_lt b l) [ inl lt ↦ lt | inr ge ↦ absurd (not (omega arith)) ]
 
 -- ---- reading byte by byte, and reading all and testing
 
@@ -151,18 +152,18 @@ upto_read (l ∷ ls) (b ∷ rest) =
           let less : ltb b l ≡ true = lt-ltb b l lt in
           rw (yes, less) (rw not (raw_more b (length ls) rest))
       | inr ge ↦ elim (cases_lt l b) [
-          | inl gt ↦
-              let over : leb b l ≡ false = grind arith in
-              let not : eqb b l ≡ false = grind arith in
-              let less : ltb b l ≡ false = le-ltb b l ge in
-              rw (over, less, not) refl
-          | inr le2 ↦
-              let is : b ≡ l = omega arith in
-              let yes : leb b l ≡ true = le-leb b l (omega arith) in
-              let same : eqb b l ≡ true = eq-eqb b l is in
-              let less : ltb b l ≡ false = le-ltb b l ge in
-              rw (yes, less) (rw same (rw (upto_read ls rest) (over_more b (over_at ls rest) (octets_at (length ls) rest) (octets_at (suc (length ls)) (b ∷ rest)) (raw_more b (length ls) rest))))
-        ]
+        | inl gt ↦
+            let over : leb b l ≡ false = grind arith in
+            let not : eqb b l ≡ false = grind arith in
+            let less : ltb b l ≡ false = le-ltb b l ge in
+            rw (over, less, not) refl
+        | inr le2 ↦
+            let is : b ≡ l = omega arith in
+            let yes : leb b l ≡ true = le-leb b l (omega arith) in
+            let same : eqb b l ≡ true = eq-eqb b l is in
+            let less : ltb b l ≡ false = le-ltb b l ge in
+            rw (yes, less) (rw same (rw (upto_read ls rest) (over_more b (over_at ls rest) (octets_at (length ls) rest) (octets_at (suc (length ls)) (b ∷ rest)) (raw_more b (length ls) rest))))
+      ]
     ]
 
 -- ---- moments

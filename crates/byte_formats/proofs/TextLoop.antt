@@ -1,5 +1,5 @@
 -- Reading a text byte by byte, as a loop does.
-use Rattle.std.proofs.Common.{◌≡◌, ℕ, zero, suc, ◌+◌, ◌-◌, ◌<◌, ◌≤◌, Bool, true, false, cond, List, [], ◌∷◌, length, take, drop, Option, Some, None, Result, Ok, Err, refl, sym, ap, ◌∙◌, arith}
+use Rattle.std.proofs.Common.{◌≡◌, ℕ, zero, suc, ◌+◌, ◌-◌, ◌<◌, ◌≤◌, Bool, true, false, cond, List, [], ◌∷◌, length, take, drop, Option, Some, None, Ok, Err, refl, sym, ap, ◌∙◌, arith}
 use Rattle.byte_formats.specs.Formats.{◌>>=◌, Reading}
 use Rattle.byte_formats.specs.Texts.{allows, after, characters_at, fault_of}
 use Rattle.byte_formats.specs.declared.text.Awaited.{Awaited}
@@ -17,7 +17,7 @@ unfolding characters_at
 goes_on awaited len done b rest others total lt parts allowed so_far =
     let left : len - done ≡ suc (len - (done + 1)) = omega arith in
     let step : fault_of (characters_at awaited (len - done) rest) ≡ fault_of (characters_at (after awaited b) (len - (done + 1)) others) =
-        rw (parts, left) (rw (rw left at allowed) (same_fault b (characters_at (after awaited b) (len - (done + 1)) others))) in
+    rw (parts, left) (rw (rw left at allowed) (same_fault b (characters_at (after awaited b) (len - (done + 1)) others))) in
     sym step ∙ so_far
 
 pub refuses : (awaited : Awaited) (len done b : ℕ) (rest others : List ℕ) (total : Option ℕ) → done < len → rest ≡ b ∷ others → allows awaited (len - done) b ≡ false

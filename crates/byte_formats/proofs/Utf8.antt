@@ -1,13 +1,12 @@
 -- The laws of UTF-8 of a known length.
-use Rattle.std.proofs.Common.{◌≡◌, ℕ, zero, suc, ◌+◌, ◌-◌, ◌<◌, ◌≤◌, Bool, true, false, cond, ltb, leb, ◌&&◌, List, [], ◌∷◌, ◌++◌, length, get_or, take, drop, Option, Some, None, Result, Ok, Err, refl, sym, ap, subst, ◌∙◌, ◌⊎◌, inl, inr, arith, lt-ltb, le-leb}
-use Rattle.std.specs.Prelude.{◌||◌}
+use Rattle.std.proofs.Common.{◌≡◌, ℕ, zero, suc, ◌-◌, ◌≤◌, Bool, true, false, cond, ltb, leb, List, [], ◌∷◌, length, get_or, take, drop, None, Result, Ok, Err, refl, sym, ap, subst, ◌∙◌, arith, lt-ltb, le-leb}
 use Rattle.std.specs.Str.{IsAscii, IsUtf8}
 use Rattle.std.specs.Result.{MatchResult, is_ok}
 use Rattle.std.proofs.lemmas.Bool.{and_from}
 use Rattle.std.proofs.lemmas.Str.{IsUtf8-from_ascii}
 use Rattle.byte_formats.specs.Formats.{◌>>=◌, Reading, Format, follows, made, byte_where, copies}
 use Rattle.byte_formats.specs.Fields.{IsBytes, alone}
-use Rattle.byte_formats.specs.Texts.{between, bytes_after, least_after, most_after, is_lead, allows, after, characters, characters_at, fault_of}
+use Rattle.byte_formats.specs.Texts.{bytes_after, least_after, most_after, allows, after, characters, characters_at, fault_of}
 use Rattle.byte_formats.specs.declared.text.Awaited.{Awaited}
 use Rattle.byte_formats.specs.declared.text.Awaited.TheVariants.{Lead, Within}
 use Rattle.byte_formats.proofs.Laws.{Lawful, follows_lawful, made_lawful, byte_lawful, same_lawful}
@@ -58,8 +57,8 @@ unfolding utf8
 utf8_lawful awaited zero h = alone_lawful []
 utf8_lawful awaited (suc left) h =
     made_lawful (λ (x : ℕ × List ℕ). x.0 ∷ x.1) front (follows (byte_where (allows awaited (suc left)) (a_byte awaited)) (λ byte. utf8 (after awaited byte) left)) (λ _ _. refl)
-        (follows_lawful (byte_where (allows awaited (suc left)) (a_byte awaited)) (λ byte. utf8 (after awaited byte) left) (byte_lawful (allows awaited (suc left)) (a_byte awaited) (allows_some awaited left h))
-            (λ byte _. utf8_lawful (after awaited byte) left (after_ordered awaited byte)))
+    (follows_lawful (byte_where (allows awaited (suc left)) (a_byte awaited)) (λ byte. utf8 (after awaited byte) left) (byte_lawful (allows awaited (suc left)) (a_byte awaited) (allows_some awaited left h))
+    (λ byte _. utf8_lawful (after awaited byte) left (after_ordered awaited byte)))
 
 -- ---- it reads as `characters_at` does
 
@@ -101,9 +100,9 @@ fit_chars : (awaited : Awaited) (n : ℕ) (bs : List ℕ) → (utf8 awaited n).f
 unfolding utf8 Chars
 fit_chars awaited zero bs h = h
 fit_chars awaited (suc left) [] h = not_nil 0 [] h.1
- where
-  not_nil : (b : ℕ) (bs : List ℕ) → b ∷ bs ≡ [] → ⊥
-  not_nil b bs e = absurd cc
+  where
+    not_nil : (b : ℕ) (bs : List ℕ) → b ∷ bs ≡ [] → ⊥
+    not_nil b bs e = absurd cc
 fit_chars awaited (suc left) (b ∷ rest) h = (h.0.0, fit_chars (after awaited b) left rest h.0.1)
 
 utf8_spells : (awaited : Awaited) (n : ℕ) (bs : List ℕ) → (utf8 awaited n).fits bs → (utf8 awaited n).spell bs ≡ bs

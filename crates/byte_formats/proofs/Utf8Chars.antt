@@ -1,5 +1,5 @@
 -- The bytes that a reader of texts takes one by one are UTF-8, and all of UTF-8 is taken.
-use Rattle.std.proofs.Common.{◌≡◌, ℕ, zero, suc, ◌+◌, ◌-◌, ◌*◌, ◌/◌, ◌<◌, ◌≤◌, ◌⊎◌, true, List, [], ◌∷◌, ◌++◌, length, refl, sym, ap, subst, ◌∙◌, inl, inr, arith, ltb, leb, lt-ltb, le-ltb, le-leb, eq-eqb, ne_eqb, ◌&&◌}
+use Rattle.std.proofs.Common.{◌≡◌, ℕ, zero, suc, ◌+◌, ◌-◌, ◌*◌, ◌/◌, ◌<◌, ◌≤◌, ◌⊎◌, true, List, [], ◌∷◌, ◌++◌, length, refl, sym, ap, subst, ◌∙◌, inl, inr, arith, ltb, leb, lt-ltb, le-ltb, le-leb, eq-eqb, ne_eqb}
 use Rattle.std.specs.Prelude.{◌||◌}
 use Rattle.std.proofs.lemmas.Bool.{cases_lt, cases_eq, and_parts, and_from, or_cases, or_left, or_right, ltb-true, leb-true}
 use Rattle.std.proofs.lemmas.Str.{encode_ascii, IsUtf8-nil}
@@ -185,7 +185,7 @@ module _ (k : ℕ) (others : (n : ℕ) (bs : List ℕ) → n ≤ k → Chars Lea
       let t = taken (least_after b) (most_after b) 1 n bs (omega (arith, some)) chars in
       let u = taken 0x80 0xBF 0 t.room t.rest (omega (arith, some, t.count)) t.chars in
       after_two b t.byte u.byte bs t.rest u.rest t.parts u.parts
-          (cons_three b t.byte u.byte u.rest l h t.low t.high (u.low, u.high) (others u.room u.rest (omega (arith, t.count, u.count)) u.chars))
+      (cons_three b t.byte u.byte u.rest l h t.low t.high (u.low, u.high) (others u.room u.rest (omega (arith, t.count, u.count)) u.chars))
 
   ends_four : (b n : ℕ) (bs : List ℕ) → n ≤ k → 0xF0 ≤ b → b ≤ 0xF4 → 2 < n → Chars (Within (least_after b) (most_after b) 2) n bs → IsUtf8 (b ∷ bs)
   unfolding IsContinuation
@@ -194,7 +194,7 @@ module _ (k : ℕ) (others : (n : ℕ) (bs : List ℕ) → n ≤ k → Chars Lea
       let u = taken 0x80 0xBF 1 t.room t.rest (omega (arith, some, t.count)) t.chars in
       let v = taken 0x80 0xBF 0 u.room u.rest (omega (arith, some, t.count, u.count)) u.chars in
       after_three b t.byte u.byte v.byte bs t.rest u.rest v.rest t.parts u.parts v.parts
-          (cons_four b t.byte u.byte v.byte v.rest l h t.low t.high (u.low, u.high) (v.low, v.high) (others v.room v.rest (omega (arith, t.count, u.count, v.count)) v.chars))
+      (cons_four b t.byte u.byte v.byte v.rest l h t.low t.high (u.low, u.high) (v.low, v.high) (others v.room v.rest (omega (arith, t.count, u.count, v.count)) v.chars))
 
 sound : (k n : ℕ) (bs : List ℕ) → n ≤ k → Chars Lead n bs → IsUtf8 bs
 unfolding Chars
@@ -207,12 +207,12 @@ sound (suc k) (suc n) (b ∷ bs) le h =
     elim p.0 [
       | inl a ↦ cons b (b ∷ []) bs (low_scalar b (omega arith)) (encode_ascii b a) (sound k n bs fewer (subst (λ (w : Awaited). Chars w n bs) (after_1 b a) h.1))
       | inr m ↦ elim (cases_lt b 0xE0) [
-          | inl s ↦ ends_two k (sound k) b n bs fewer m.0 s (omega (arith, p.1, room_2 b (omega arith) s)) (subst (λ (w : Awaited). Chars w n bs) (after_2 b (omega arith) s) h.1)
-          | inr s ↦ elim (cases_lt b 0xF0) [
-              | inl t ↦ ends_three k (sound k) b n bs fewer s t (omega (arith, p.1, room_3 b s t)) (subst (λ (w : Awaited). Chars w n bs) (after_3 b s t) h.1)
-              | inr t ↦ ends_four k (sound k) b n bs fewer t m.1 (omega (arith, p.1, room_4 b t)) (subst (λ (w : Awaited). Chars w n bs) (after_4 b t) h.1)
-            ]
+        | inl s ↦ ends_two k (sound k) b n bs fewer m.0 s (omega (arith, p.1, room_2 b (omega arith) s)) (subst (λ (w : Awaited). Chars w n bs) (after_2 b (omega arith) s) h.1)
+        | inr s ↦ elim (cases_lt b 0xF0) [
+          | inl t ↦ ends_three k (sound k) b n bs fewer s t (omega (arith, p.1, room_3 b s t)) (subst (λ (w : Awaited). Chars w n bs) (after_3 b s t) h.1)
+          | inr t ↦ ends_four k (sound k) b n bs fewer t m.1 (omega (arith, p.1, room_4 b t)) (subst (λ (w : Awaited). Chars w n bs) (after_4 b t) h.1)
         ]
+      ]
     ]
 
 pub Chars-IsUtf8 : (n : ℕ) (bs : List ℕ) → Chars Lead n bs → IsUtf8 bs
@@ -237,20 +237,20 @@ take_two : (x y m : ℕ) (bs : List ℕ) → 0xC2 ≤ x → x < 0xE0 → IsConti
 unfolding IsContinuation
 take_two x y m bs l h f chars =
     lead_first (Within 0x80 0xBF 0) (suc m) x (y ∷ bs) (lead_from (suc (suc m)) x l (omega arith) (omega (arith, room_2 x (omega arith) h))) (after_2 x (omega arith) h)
-        (within_from 0x80 0xBF 0 m y bs f.0 f.1 chars)
+    (within_from 0x80 0xBF 0 m y bs f.0 f.1 chars)
 
 take_three : (x y z m : ℕ) (bs : List ℕ) → 0xE0 ≤ x → x < 0xF0 → least_after x ≤ y → y ≤ most_after x → IsContinuation z → Chars Lead m bs → Chars Lead (suc (suc (suc m))) (x ∷ y ∷ z ∷ bs)
 unfolding IsContinuation
 take_three x y z m bs l h low high f chars =
     lead_first (Within (least_after x) (most_after x) 1) (suc (suc m)) x (y ∷ z ∷ bs) (lead_from (suc (suc (suc m))) x (omega arith) (omega arith) (omega (arith, room_3 x l h))) (after_3 x l h)
-        (within_from (least_after x) (most_after x) 1 (suc m) y (z ∷ bs) low high (within_from 0x80 0xBF 0 m z bs f.0 f.1 chars))
+    (within_from (least_after x) (most_after x) 1 (suc m) y (z ∷ bs) low high (within_from 0x80 0xBF 0 m z bs f.0 f.1 chars))
 
 take_four : (x y z w m : ℕ) (bs : List ℕ) → 0xF0 ≤ x → x ≤ 0xF4 → least_after x ≤ y → y ≤ most_after x → IsContinuation z → IsContinuation w → Chars Lead m bs
     → Chars Lead (suc (suc (suc (suc m)))) (x ∷ y ∷ z ∷ w ∷ bs)
 unfolding IsContinuation
 take_four x y z w m bs l h low high f g chars =
     lead_first (Within (least_after x) (most_after x) 2) (suc (suc (suc m))) x (y ∷ z ∷ w ∷ bs) (lead_from (suc (suc (suc (suc m)))) x (omega arith) h (omega (arith, room_4 x l))) (after_4 x l)
-        (within_from (least_after x) (most_after x) 2 (suc (suc m)) y (z ∷ w ∷ bs) low high (within_from 0x80 0xBF 1 (suc m) z (w ∷ bs) f.0 f.1 (within_from 0x80 0xBF 0 m w bs g.0 g.1 chars)))
+    (within_from (least_after x) (most_after x) 2 (suc (suc m)) y (z ∷ w ∷ bs) low high (within_from 0x80 0xBF 1 (suc m) z (w ∷ bs) f.0 f.1 (within_from 0x80 0xBF 0 m w bs g.0 g.1 chars)))
 
 placed : (c : ℕ) (front bs : List ℕ) → encode c ≡ front → Chars Lead (length (front ++ bs)) (front ++ bs) → Chars Lead (length (encode c ++ bs)) (encode c ++ bs)
 placed c front bs e h = subst (λ (r : List ℕ). Chars Lead (length (r ++ bs)) (r ++ bs)) (sym e) h
@@ -269,12 +269,12 @@ one_char c bs ok chars =
               let l = least_is (224 + c / 4096) in
               let m = most_is (224 + c / 4096) in
               placed c ((224 + c / 4096) ∷ next (c / 64) ∷ next c ∷ []) bs (three c b d)
-                  (take_three (224 + c / 4096) (next (c / 64)) (next c) (length bs) bs (omega arith) (omega arith) (omega arith) (omega arith) (omega arith, omega arith) chars)
+              (take_three (224 + c / 4096) (next (c / 64)) (next c) (length bs) bs (omega arith) (omega arith) (omega arith) (omega arith) (omega arith, omega arith) chars)
           | inr d ↦
               let l = least_is (240 + c / 262144) in
               let m = most_is (240 + c / 262144) in
               placed c ((240 + c / 262144) ∷ next (c / 4096) ∷ next (c / 64) ∷ next c ∷ []) bs (four c d)
-                  (take_four (240 + c / 262144) (next (c / 4096)) (next (c / 64)) (next c) (length bs) bs (omega arith) (omega arith) (omega arith) (omega arith) (omega arith, omega arith) (omega arith, omega arith) chars)
+              (take_four (240 + c / 262144) (next (c / 4096)) (next (c / 64)) (next c) (length bs) bs (omega arith) (omega arith) (omega arith) (omega arith) (omega arith, omega arith) (omega arith, omega arith) chars)
         ]
       ]
     ]

@@ -1,5 +1,5 @@
 -- UTF-8 of a known length, by the table of well-formed byte sequences of the Unicode Standard.
-use Rattle.std.specs.Prelude.{◌≡◌, ℕ, zero, suc, ◌-◌, Bool, ◌&&◌, ◌||◌, List, [], ◌∷◌, length, Option, Some, None, Result, Ok, Err, nat_lt, nat_le, ◌==◌, if◌then◌else◌, IsUtf8}
+use Rattle.std.specs.Prelude.{◌≡◌, ℕ, zero, suc, ◌-◌, Bool, ◌&&◌, ◌||◌, List, [], ◌∷◌, length, Option, Some, None, Ok, Err, nat_lt, nat_le, ◌==◌, if◌then◌else◌, IsUtf8}
 use Rattle.byte_formats.specs.Formats.{◌>>=◌, Reading, Format, copies}
 use Rattle.byte_formats.specs.declared.text.Awaited.{Awaited}
 use Rattle.byte_formats.specs.declared.text.Awaited.TheVariants.{Lead, Within}

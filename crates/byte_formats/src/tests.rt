@@ -2,28 +2,16 @@ use super::*;
 use fh_model::Text;
 use std::test::*;
 
-/// Reads the bytes as a text behind their length. The first bad place in them, or `None` where they are a text.
-fn text_fault(rt: HostRuntime, bytes: &[u8]) -> Result<Option<usize>, Fail> {
-    let mut body = Vec::new(rt.alloc());
-    body.extend_from_slice(&(bytes.len() as u32).to_be_bytes())?;
-    body.extend_from_slice(bytes)?;
-    match Text::read(rt.alloc(), &body) {
-        Ok((text, rest)) => {
-            assert_eq!(rt; text.as_bytes(), bytes);
-            assert!(rt; rest.is_empty());
-            Ok(None)
-        }
-        Err(Stop::Bad(left)) => Ok(Some(bytes.len() - left)),
-        Err(Stop::NoMemory) => Err("memory".into()),
-    }
-}
-
 #[test]
 fn a_text_is_utf8(rt: HostRuntime) -> Result<(), Fail> {
+    // The bytes, and the place of the first bad one where they are no text.
     let cases: [(&[u8], Option<usize>); 20] = [
         (b"", None),
         (b"/Docs", None),
-        ("\u{7F}\u{80}\u{7FF}\u{800}\u{FFFF}\u{10000}\u{10FFFF}".as_bytes(), None),
+        (
+            "\u{7F}\u{80}\u{7FF}\u{800}\u{FFFF}\u{10000}\u{10FFFF}".as_bytes(),
+            None,
+        ),
         // A first byte with too few bytes after it in the text.
         (b"\xC3", Some(0)),
         (b"ab\xE2\x82", Some(2)),
@@ -48,7 +36,22 @@ fn a_text_is_utf8(rt: HostRuntime) -> Result<(), Fail> {
         (b"\xED\x9F\xBF\xEE\x80\x80\xC2", Some(6)),
     ];
     for (bytes, fault) in cases {
-        assert_eq!(rt; text_fault(rt, bytes)?, fault, "{bytes:?}");
+        let mut body = Vec::new(rt.alloc());
+        body.extend_from_slice(&(bytes.len() as u32).to_be_bytes())?;
+        body.extend_from_slice(bytes)?;
+        match Text::read(rt.alloc(), &body) {
+            Ok((text, rest)) => {
+                assert_eq!(rt; text.as_bytes(), bytes);
+                assert!(rt; rest.is_empty());
+                assert_eq!(rt; fault, None, "{bytes:?}");
+            }
+            Err(Stop::Bad(left)) => assert_eq!(rt;
+                fault,
+                bytes.len().checked_sub(left),
+                "{bytes:?}"
+            ),
+            Err(Stop::NoMemory) => return Err("out of memory".into()),
+        }
     }
     Ok(())
 }

@@ -64,13 +64,41 @@ fn after_lead(lead: u8) -> Awaited
 {
     match lead {
         0..=0x7F => Awaited::Lead,
-        0x80..=0xDF => Awaited::Within { least: 0x80, most: 0xBF, more: 0 },
-        0xE0 => Awaited::Within { least: 0xA0, most: 0xBF, more: 1 },
-        0xED => Awaited::Within { least: 0x80, most: 0x9F, more: 1 },
-        0xE1..=0xEF => Awaited::Within { least: 0x80, most: 0xBF, more: 1 },
-        0xF0 => Awaited::Within { least: 0x90, most: 0xBF, more: 2 },
-        0xF4 => Awaited::Within { least: 0x80, most: 0x8F, more: 2 },
-        0xF1..=0xFF => Awaited::Within { least: 0x80, most: 0xBF, more: 2 },
+        0x80..=0xDF => Awaited::Within {
+            least: 0x80,
+            most: 0xBF,
+            more: 0,
+        },
+        0xE0 => Awaited::Within {
+            least: 0xA0,
+            most: 0xBF,
+            more: 1,
+        },
+        0xED => Awaited::Within {
+            least: 0x80,
+            most: 0x9F,
+            more: 1,
+        },
+        0xE1..=0xEF => Awaited::Within {
+            least: 0x80,
+            most: 0xBF,
+            more: 1,
+        },
+        0xF0 => Awaited::Within {
+            least: 0x90,
+            most: 0xBF,
+            more: 2,
+        },
+        0xF4 => Awaited::Within {
+            least: 0x80,
+            most: 0x8F,
+            more: 2,
+        },
+        0xF1..=0xFF => Awaited::Within {
+            least: 0x80,
+            most: 0xBF,
+            more: 2,
+        },
     }
 }
 

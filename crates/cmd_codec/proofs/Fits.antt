@@ -5,7 +5,6 @@ use Rattle.fh_model.specs.declared.commands.Act.{Act}
 use Rattle.fh_model.specs.declared.commands.Act.TheVariants.{MakeFolder}
 use Rattle.fh_model.specs.declared.commands.Cmd.{Cmd}
 use Rattle.byte_formats.specs.Fields.{last_second}
-use Rattle.byte_formats.specs.Lists.{text}
 use Rattle.byte_formats.proofs.ListLaws.{text_fits}
 use Rattle.cmd_codec.specs.Commands.{kind_of, is_kind, act, command, make_folder}
 

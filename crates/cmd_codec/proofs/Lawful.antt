@@ -1,8 +1,7 @@
 -- Commands keep the laws of formats.
 use Rattle.std.proofs.Common.{◌≡◌, ℕ, true, refl, ap}
-use Rattle.fh_model.specs.declared.commands.Act.{Act}
 use Rattle.fh_model.specs.declared.commands.Act.TheVariants.{MakeFolder}
-use Rattle.byte_formats.specs.Formats.{Format, follows, both, made, byte_where}
+use Rattle.byte_formats.specs.Formats.{both, byte_where}
 use Rattle.byte_formats.specs.Fields.{n64, flag, moment}
 use Rattle.byte_formats.specs.Lists.{text}
 use Rattle.byte_formats.proofs.Laws.{Lawful, OfKind, follows_lawful, both_lawful, made_lawful, byte_lawful, last_kind, made_kind}
@@ -23,6 +22,6 @@ pub command_lawful : Lawful command
 unfolding command
 command_lawful =
     made_lawful (λ x. record { seat = x.1.0; at = x.1.1.0; act = x.1.1.1 }) (λ cmd. (kind_of cmd.act, (cmd.seat, (cmd.at, cmd.act)))) command_fields
-        (λ x h. ap (λ (kind : ℕ). (kind, x.1)) ((act_kind x.0 h.0).kind x.1.1.1 h.1.1.1))
-        (follows_lawful (byte_where is_kind 1) (λ kind. both n64 (both moment (act kind))) (byte_lawful is_kind 1 refl)
-            (λ kind h. both_lawful n64 (both moment (act kind)) n64_lawful (both_lawful moment (act kind) moment_lawful (act_kind kind h).lawful)))
+    (λ x h. ap (λ (kind : ℕ). (kind, x.1)) ((act_kind x.0 h.0).kind x.1.1.1 h.1.1.1))
+    (follows_lawful (byte_where is_kind 1) (λ kind. both n64 (both moment (act kind))) (byte_lawful is_kind 1 refl)
+    (λ kind h. both_lawful n64 (both moment (act kind)) n64_lawful (both_lawful moment (act kind) moment_lawful (act_kind kind h).lawful)))

@@ -20,8 +20,10 @@ is_kind kind = kind == 1
 
 abbrev pub make_folder_fields : Format (ℕ × (List ℕ × Bool))
 make_folder_fields = both n64 (both text flag)
+
 abbrev pub of_make_folder : Act → ℕ × (List ℕ × Bool)
 of_make_folder (MakeFolder user path rename) = (user, (path, rename))
+
 unfoldable pub make_folder : Format Act
 make_folder = made (λ x. MakeFolder x.0 x.1.0 x.1.1) of_make_folder make_folder_fields
 

@@ -1,6 +1,5 @@
-use Rattle.std.proofs.Common.{◌≡◌, ◌∙◌, sym, Ok, List, ℕ, ap, arith}
+use Rattle.std.proofs.Common.{arith}
 use Rattle.byte_formats.specs.Fields.{IsBytes}
-use Rattle.byte_formats.specs.Texts.{characters_at}
 use Rattle.byte_formats.specs.declared.text.Awaited.TheVariants.{Lead}
 use Rattle.byte_formats.proofs.TextLoop.{no_fault}
 use Rattle.byte_formats.proofs.Utf8.{no_fault_utf8, is_ok_unless}

@@ -19,5 +19,5 @@ returns-in-Err-Bad-clause-bad c = λ place e.
     let at : length c.args.bytes.now - c.in-Err-Bad.left ≡ place = cc in
     subst (λ (p : ℕ). IsFirstBad command c.args.bytes.now p) at (whole_stops command command_lawful c.args.bytes.now c.in-Err-Bad.left (λ i. omega (arith, c.type_inv.bytes i)) (rw c.in-Err-Bad.field-0-is at c.in-Err-Bad.ensures))
 
-pub overflow_sub-place : goal.overflow_sub-place
-overflow_sub-place c = left_within command command_lawful c.args.bytes.now c.in-Err-Bad.left (λ i. omega (arith, c.type_inv.bytes i)) (rw c.in-Err-Bad.field-0-is at c.in-Err-Bad.ensures)
+pub overflow_sub-result : goal.overflow_sub-result
+overflow_sub-result c = left_within command command_lawful c.args.bytes.now c.in-Err-Bad.left (λ i. omega (arith, c.type_inv.bytes i)) (rw c.in-Err-Bad.field-0-is at c.in-Err-Bad.ensures)
