@@ -21,11 +21,3 @@ many_lawful f F = with_length_lawful (times f) (times_lawful f F) (λ n xs h. h.
 
 pub text_lawful : Lawful text
 text_lawful = with_length_lawful characters characters_lawful (λ n xs h. h.0)
-
--- ---- which texts and lists have a spelling
-
-pub text_fits : (bytes : List ℕ) → length bytes < 2 ^ 32 → IsUtf8 bytes → text.fits bytes
-text_fits bytes short utf8 = ((short, (refl, utf8)), refl)
-
-pub many_fits : {A : Type 0} (f : Format A) (items : List A) → length items < 2 ^ 32 → AllByRecursion f.fits items → (many f).fits items
-many_fits f items short fit = ((short, (refl, fit)), refl)

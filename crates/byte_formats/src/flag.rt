@@ -1,3 +1,4 @@
+ghost use Rattle.std.specs.Prelude.{⊤};
 ghost use Rattle.byte_formats.specs.Fields.{flag};
 
 use crate::{Field, Stop, put_byte};
@@ -11,6 +12,8 @@ impl Field for bool {
 
     ghost reads = { flag.read };
 
+    ghost is_short = { λ _. ⊤ };
+
     #[tactic(auto, unfolding(crate::specs::Fields::flag_at))]
     fn read(_alloc: Global, bytes: &[u8]) -> Result<(bool, &[u8]), Stop> {
         match bytes {
@@ -23,5 +26,9 @@ impl Field for bool {
 
     fn put(&self, out: &mut Vec<u8>) -> Result<(), NoMemory> {
         put_byte(out, *self as u8)
+    }
+
+    fn has_spelling(&self) -> bool {
+        true
     }
 }

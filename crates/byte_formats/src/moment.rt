@@ -3,10 +3,8 @@ ghost use Rattle.byte_formats.specs.Fields.{moment, over_at};
 ghost use Rattle.byte_formats.specs.Given.{Gives};
 
 use crate::{Field, Stop};
+use fh_model::LAST_SECOND;
 use std::alloc::Global;
-
-/// The bytes of the last second, 9999-12-31T23:59:59Z.
-const LAST_SECOND_BYTES: [u8; 8] = [0, 0, 0, 58, 255, 244, 65, 127];
 
 /// How many bytes are left from the first one on that takes a number over the limit.
 fn over_at(limit: &[u8], bytes: &[u8]) -> Option<usize>
@@ -34,7 +32,7 @@ fn over_at(limit: &[u8], bytes: &[u8]) -> Option<usize>
 pub fn moment_at(alloc: Global, bytes: &[u8]) -> Result<(u64, &[u8]), Stop>
     ensures { Gives (λ x. (x.0, x.1.now)) result (moment.read bytes.now) }
 {
-    match over_at(&LAST_SECOND_BYTES, bytes) {
+    match over_at(&LAST_SECOND.to_be_bytes(), bytes) {
         Some(left) => Err(Stop::Bad(left)),
         None => u64::read(alloc, bytes),
     }

@@ -1,3 +1,4 @@
+ghost use Rattle.std.specs.Prelude.{⊤};
 ghost use Rattle.byte_formats.specs.Fields.{n32, n64};
 
 use crate::{Field, Stop};
@@ -10,6 +11,8 @@ impl Field for u32 {
     ghost fits = { n32.fits };
 
     ghost reads = { n32.read };
+
+    ghost is_short = { λ _. ⊤ };
 
     fn read(_alloc: Global, bytes: &[u8]) -> Result<(u32, &[u8]), Stop> {
         if bytes.len() < 4 {
@@ -24,6 +27,12 @@ impl Field for u32 {
         out.extend_from_slice(&self.to_be_bytes())?;
         Ok(())
     }
+
+    fn has_spelling(&self) -> bool {
+        // Every number that is read is in the range of its type.
+        let _number = *self;
+        true
+    }
 }
 
 impl Field for u64 {
@@ -32,6 +41,8 @@ impl Field for u64 {
     ghost fits = { n64.fits };
 
     ghost reads = { n64.read };
+
+    ghost is_short = { λ _. ⊤ };
 
     fn read(_alloc: Global, bytes: &[u8]) -> Result<(u64, &[u8]), Stop> {
         if bytes.len() < 8 {
@@ -47,5 +58,11 @@ impl Field for u64 {
     fn put(&self, out: &mut Vec<u8>) -> Result<(), NoMemory> {
         out.extend_from_slice(&self.to_be_bytes())?;
         Ok(())
+    }
+
+    fn has_spelling(&self) -> bool {
+        // Every number that is read is in the range of its type.
+        let _number = *self;
+        true
     }
 }

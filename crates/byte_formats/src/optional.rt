@@ -12,6 +12,8 @@ impl<T: Field> Field for Option<T> {
 
     ghost reads = { optional_at T.reads };
 
+    ghost is_short = { λ field. IfSome field T.is_short };
+
     fn read(alloc: Global, bytes: &[u8]) -> Result<(Option<T>, &[u8]), Stop> {
         match bytes {
             [] => Err(Stop::Bad(0)),
@@ -31,6 +33,13 @@ impl<T: Field> Field for Option<T> {
                 put_byte(out, 1)?;
                 value.put(out)
             }
+        }
+    }
+
+    fn has_spelling(&self) -> bool {
+        match self {
+            None => true,
+            Some(value) => value.has_spelling(),
         }
     }
 }

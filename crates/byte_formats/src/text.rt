@@ -31,6 +31,23 @@ fn is_lead(left: usize, byte: u8) -> bool
     (byte < 0x80 || (0xC2..=0xF4).contains(&byte)) && bytes_after < left
 }
 
+/// What may come after the first byte of a character.
+fn after_lead(lead: u8) -> Awaited
+    ensures { result ≡ after Lead lead }
+{
+    let (least, most, more) = match lead {
+        0..=0x7F => return Awaited::Lead,
+        0x80..=0xDF => (0x80, 0xBF, 0),
+        0xE0 => (0xA0, 0xBF, 1),
+        0xED => (0x80, 0x9F, 1),
+        0xE1..=0xEF => (0x80, 0xBF, 1),
+        0xF0 => (0x90, 0xBF, 2),
+        0xF4 => (0x80, 0x8F, 2),
+        0xF1..=0xFF => (0x80, 0xBF, 2),
+    };
+    Awaited::Within { least, most, more }
+}
+
 impl Awaited {
     /// Whether the byte may come next, where so many bytes are left with it.
     fn allows(self, left: usize, byte: u8) -> bool
@@ -55,50 +72,6 @@ impl Awaited {
                 more: more - 1,
             },
         }
-    }
-}
-
-/// What may come after the first byte of a character.
-fn after_lead(lead: u8) -> Awaited
-    ensures { result ≡ after Lead lead }
-{
-    match lead {
-        0..=0x7F => Awaited::Lead,
-        0x80..=0xDF => Awaited::Within {
-            least: 0x80,
-            most: 0xBF,
-            more: 0,
-        },
-        0xE0 => Awaited::Within {
-            least: 0xA0,
-            most: 0xBF,
-            more: 1,
-        },
-        0xED => Awaited::Within {
-            least: 0x80,
-            most: 0x9F,
-            more: 1,
-        },
-        0xE1..=0xEF => Awaited::Within {
-            least: 0x80,
-            most: 0xBF,
-            more: 1,
-        },
-        0xF0 => Awaited::Within {
-            least: 0x90,
-            most: 0xBF,
-            more: 2,
-        },
-        0xF4 => Awaited::Within {
-            least: 0x80,
-            most: 0x8F,
-            more: 2,
-        },
-        0xF1..=0xFF => Awaited::Within {
-            least: 0x80,
-            most: 0xBF,
-            more: 2,
-        },
     }
 }
 
@@ -141,6 +114,8 @@ impl Field for Text {
 
     ghost reads = { text.read };
 
+    ghost is_short = { λ text. length text < 2 ^ 32 };
+
     fn read(alloc: Global, bytes: &[u8]) -> Result<(Text, &[u8]), Stop> {
         let (len, rest) = u32::read(alloc, bytes)?;
         let (front, rest) = characters_at(len as usize, rest)?;
@@ -152,5 +127,9 @@ impl Field for Text {
         (bytes.len() as u32).put(out)?;
         out.extend_from_slice(bytes)?;
         Ok(())
+    }
+
+    fn has_spelling(&self) -> bool {
+        self.as_str().len() <= u32::MAX as usize
     }
 }

@@ -15,7 +15,3 @@ kind_known (MakeFolder user path rename) = refl
 pub command_fits : (cmd : Cmd) → cmd.seat < 2 ^ 64 → cmd.at ≤ last_second → (act (kind_of cmd.act)).fits cmd.act → command.fits cmd
 unfolding command
 command_fits cmd seat at fits = ((kind_known cmd.act, (seat, (at, fits))), refl)
-
-pub make_folder_fits : (user : ℕ) (path : List ℕ) (rename : Bool) → user < 2 ^ 64 → length path < 2 ^ 32 → IsUtf8 path → make_folder.fits (MakeFolder user path rename)
-unfolding make_folder
-make_folder_fits user path rename number len utf8 = ((number, (text_fits path len utf8, tt)), refl)

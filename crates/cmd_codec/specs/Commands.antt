@@ -1,7 +1,7 @@
 -- How a command is spelled: the number of its act's kind, its seat, its moment, and the fields of the act.
-use Rattle.std.specs.Prelude.{ℕ, Bool, List, ◌==◌}
+use Rattle.std.specs.Prelude.{ℕ, ◌<◌, ◌≤◌, ◌^◌, Bool, List, length, ◌==◌}
 use Rattle.byte_formats.specs.Formats.{Format, follows, both, made, byte_where}
-use Rattle.byte_formats.specs.Fields.{n64, flag, moment}
+use Rattle.byte_formats.specs.Fields.{n64, flag, moment, last_second}
 use Rattle.byte_formats.specs.Lists.{text}
 use Rattle.fh_model.specs.declared.commands.Act.{Act}
 use Rattle.fh_model.specs.declared.commands.Act.TheVariants.{MakeFolder}
@@ -38,3 +38,12 @@ command_fields = follows (byte_where is_kind 1) (λ kind. both n64 (both moment 
 
 unfoldable pub command : Format Cmd
 command = made (λ x. record { seat = x.1.0; at = x.1.1.0; act = x.1.1.1 }) (λ cmd. (kind_of cmd.act, (cmd.seat, (cmd.at, cmd.act)))) command_fields
+
+-- ---- which commands have a spelling
+
+-- each text of the act has a length of four bytes
+abbrev pub IsShort : Act → Type 0
+IsShort (MakeFolder user path rename) = length path < 2 ^ 32
+
+abbrev pub HasSpelling : Cmd → Type 0
+HasSpelling cmd = (cmd.at ≤ last_second) × IsShort cmd.act

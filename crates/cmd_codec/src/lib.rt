@@ -20,9 +20,11 @@
 
 mod kinds;
 mod reading;
+mod spelling;
 mod writing;
 
 pub use reading::decode;
+pub use spelling::has_spelling;
 pub use writing::encode;
 
 #[cfg(test)]

@@ -1,9 +1,10 @@
 ghost use Rattle.std.specs.Prelude.{◌≡◌, ◌++◌, OnOk, IfOk};
 ghost use Rattle.byte_formats.specs.Spelling.{Spells};
 ghost use Rattle.fh_model.specs.declared.commands.Act.TheVariants.{MakeFolder};
-ghost use Rattle.cmd_codec.specs.Commands.{act, command, kind_of, make_folder};
+ghost use Rattle.cmd_codec.specs.Commands.{HasSpelling, act, command, kind_of, make_folder};
 
 use crate::kinds::kind_of;
+use crate::spelling::has_spelling;
 use byte_formats::{Field, put_byte};
 use fh_model::{Act, Cmd, NoMemory, Text};
 use std::alloc::Global;
@@ -32,9 +33,10 @@ fn put_act(out: &mut Vec<u8>, what: &Act) -> Result<(), NoMemory>
 /// in it is shorter than 2^32.
 #[tactic(auto, unfolding(crate::specs::Commands::command))]
 pub fn encode(alloc: Global, cmd: &Cmd) -> Result<Vec<u8>, NoMemory>
-    requires { command.fits cmd.now }
+    requires { HasSpelling cmd.now }
     ensures { IfOk result (λ bytes. Spells command bytes.items cmd.now) }
 {
+    prove!(has_spelling(cmd));
     let mut out = Vec::new(alloc);
     put_byte(&mut out, kind_of(&cmd.act))?;
     cmd.seat.put(&mut out)?;

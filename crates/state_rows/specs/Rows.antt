@@ -1,5 +1,5 @@
 -- How a row is spelled: the number of its kind, and the fields of that kind.
-use Rattle.std.specs.Prelude.{ℕ, Bool, List, Option, ◌==◌, ◌||◌}
+use Rattle.std.specs.Prelude.{ℕ, ◌<◌, ◌^◌, Bool, List, length, Option, IfSome, ◌==◌, ◌||◌, ⊤}
 use Rattle.byte_formats.specs.Formats.{Format, follows, both, made, byte_where, pick}
 use Rattle.byte_formats.specs.Fields.{n64, flag, optional}
 use Rattle.byte_formats.specs.Lists.{text, many}
@@ -68,3 +68,11 @@ row_fields = follows (byte_where is_kind 128) fields
 
 unfoldable pub checkpoint_row : Format Row
 checkpoint_row = made (λ x. x.1) (λ r. (kind_of r, r)) row_fields
+
+-- ---- which rows have a spelling
+
+-- each text and list of the row has a length of four bytes
+abbrev pub HasSpelling : Row → Type 0
+HasSpelling (Counters rev id session user namespace moment) = ⊤
+HasSpelling (User number home token) = IfSome token (λ bytes. length bytes < 2 ^ 32)
+HasSpelling (Namespace number shared floor len members) = length members < 2 ^ 32

@@ -17,9 +17,11 @@
 
 mod kinds;
 mod reading;
+mod spelling;
 mod writing;
 
 pub use reading::decode_row;
+pub use spelling::has_spelling;
 pub use writing::encode_row;
 
 #[cfg(test)]

@@ -1,9 +1,10 @@
 ghost use Rattle.std.specs.Prelude.{◌≡◌, ◌++◌, OnOk, IfOk};
 ghost use Rattle.byte_formats.specs.Spelling.{Spells};
 ghost use Rattle.fh_model.specs.declared.rows.Row.TheVariants.{User, Namespace};
-ghost use Rattle.state_rows.specs.Rows.{checkpoint_row, fields, kind_of, namespace_row, next_numbers, user_row};
+ghost use Rattle.state_rows.specs.Rows.{HasSpelling, checkpoint_row, fields, kind_of, namespace_row, next_numbers, user_row};
 
 use crate::kinds::kind_of;
+use crate::spelling::has_spelling;
 use byte_formats::{Field, put_byte};
 use fh_model::{Members, Next, NoMemory, Row, Text};
 use std::alloc::Global;
@@ -92,9 +93,10 @@ fn put_fields(out: &mut Vec<u8>, what: &Row) -> Result<(), NoMemory>
 /// The one spelling of the row, which must have one: each text or list in it is shorter than 2^32.
 #[tactic(auto, unfolding(crate::specs::Rows::checkpoint_row))]
 pub fn encode_row(alloc: Global, row: &Row) -> Result<Vec<u8>, NoMemory>
-    requires { checkpoint_row.fits row.now }
+    requires { HasSpelling row.now }
     ensures { IfOk result (λ bytes. Spells checkpoint_row bytes.items row.now) }
 {
+    prove!(has_spelling(row));
     let mut out = Vec::new(alloc);
     put_byte(&mut out, kind_of(row))?;
     put_fields(&mut out, row)?;
