@@ -6,7 +6,8 @@ use Rattle.std.proofs.lemmas.List.{append-nil, take_at, drop_at, take-append-dro
 use Rattle.std.proofs.lemmas.Nat.{be_bytes_4, be_bytes_8, from_be_bytes-to_be_bytes_4, from_be_bytes-to_be_bytes_8}
 use Rattle.byte_formats.specs.Formats.{Format, made, copies, only_kind, or_kind}
 use Rattle.byte_formats.specs.Fields.{IsBytes, octets, number, n32, n64, flag, flag_at, optional, alone}
-use Rattle.byte_formats.proofs.Laws.{IsBytes-append, Took, Stops, Lawful, ok_is, made_lawful, only_kinds, or_kinds, same_lawful}
+use Rattle.byte_formats.proofs.Laws.{IsBytes-append, Took, Stops, Lawful, ok_is, made_lawful, same_lawful}
+use Rattle.byte_formats.proofs.KindLaws.{only_kinds, or_kinds}
 
 guard_ok : {A : Type 0} (b : Bool) (d : ℕ) (x y : A) → cond b (Err d) (Ok x) ≡ Ok y → (b ≡ false) × (x ≡ y)
 guard_ok true d x y e = absurd cc

@@ -1,4 +1,6 @@
 pub mod Laws
+pub mod KindLaws
+pub mod Whole
 pub mod FieldLaws
 pub mod Utf8Chars
 pub mod Utf8

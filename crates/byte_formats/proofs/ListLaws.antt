@@ -1,7 +1,5 @@
 -- The laws of what stands behind its length.
-use Rattle.std.proofs.Common.{◌≡◌, ◌<◌, ◌^◌, ℕ, List, length, ap, refl}
-use Rattle.std.specs.List.{AllByRecursion}
-use Rattle.std.specs.Str.{IsUtf8}
+use Rattle.std.proofs.Common.{◌≡◌, ℕ, List, length, ap}
 use Rattle.byte_formats.specs.Formats.{Format, follows, times}
 use Rattle.byte_formats.specs.Fields.{n32}
 use Rattle.byte_formats.specs.Texts.{characters}

@@ -5,7 +5,7 @@ use thiserror::Error;
 pub enum CodecFault {
     /// The bytes are no spelling. The place is that of the first byte such that no spelling begins with the bytes up
     /// to and with it, or the length where there is no such byte.
-    #[error("no spelling from byte {place} on")]
+    #[error("bad at byte {place}")]
     Bad { place: usize },
 
     #[error("out of memory")]

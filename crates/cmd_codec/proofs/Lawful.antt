@@ -4,7 +4,8 @@ use Rattle.fh_model.specs.declared.commands.Act.TheVariants.{MakeFolder}
 use Rattle.byte_formats.specs.Formats.{both, byte_where}
 use Rattle.byte_formats.specs.Fields.{n64, flag, moment}
 use Rattle.byte_formats.specs.Lists.{text}
-use Rattle.byte_formats.proofs.Laws.{Lawful, OfKind, follows_lawful, both_lawful, made_lawful, byte_lawful, last_kind, made_kind}
+use Rattle.byte_formats.proofs.Laws.{Lawful, follows_lawful, both_lawful, made_lawful, byte_lawful}
+use Rattle.byte_formats.proofs.KindLaws.{OfKind, last_kind, made_kind}
 use Rattle.byte_formats.proofs.FieldLaws.{n64_lawful, flag_lawful}
 use Rattle.byte_formats.proofs.ListLaws.{text_lawful}
 use Rattle.byte_formats.proofs.Moments.{moment_lawful}

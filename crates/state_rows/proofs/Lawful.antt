@@ -5,7 +5,8 @@ use Rattle.fh_model.specs.declared.rows.Row.TheVariants.{Counters, User, Namespa
 use Rattle.byte_formats.specs.Formats.{byte_where}
 use Rattle.byte_formats.specs.Fields.{n64, flag}
 use Rattle.byte_formats.specs.Lists.{text}
-use Rattle.byte_formats.proofs.Laws.{Lawful, OfKind, follows_lawful, both_lawful, made_lawful, byte_lawful, pick_kind, last_kind, made_kind}
+use Rattle.byte_formats.proofs.Laws.{Lawful, follows_lawful, both_lawful, made_lawful, byte_lawful}
+use Rattle.byte_formats.proofs.KindLaws.{OfKind, pick_kind, last_kind, made_kind}
 use Rattle.byte_formats.proofs.FieldLaws.{n64_lawful, flag_lawful, optional_lawful}
 use Rattle.byte_formats.proofs.ListLaws.{text_lawful, many_lawful}
 use Rattle.state_rows.specs.Rows.{kind_of, is_kind, next_fields, next_numbers, counters_fields, of_counters, counters_row, user_fields, of_user, user_row, namespace_fields, of_namespace, namespace_row, fields, row_fields, checkpoint_row}

@@ -1,6 +1,6 @@
 use Rattle.std.proofs.Common.{◌≡◌, ℕ, ap, subst, inl, Ok, length, ◌-◌, arith}
 use Rattle.byte_formats.specs.Spelling.{IsFirstBad}
-use Rattle.byte_formats.proofs.Laws.{whole_takes, whole_stops, same_read, not_read, left_within}
+use Rattle.byte_formats.proofs.Whole.{whole_takes, whole_stops, same_read, not_read, left_within}
 use Rattle.cmd_codec.specs.Commands.{command}
 use Rattle.cmd_codec.proofs.Lawful.{command_lawful}
 use Rattle.cmd_codec.proofs.reading.decode.Goals as goal

@@ -1,6 +1,6 @@
 use Rattle.std.proofs.Common.{◌≡◌, ℕ, ap, subst, inl, Ok, length, ◌-◌, arith}
 use Rattle.byte_formats.specs.Spelling.{IsFirstBad}
-use Rattle.byte_formats.proofs.Laws.{whole_takes, whole_stops, same_read, not_read, left_within}
+use Rattle.byte_formats.proofs.Whole.{whole_takes, whole_stops, same_read, not_read, left_within}
 use Rattle.state_rows.specs.Rows.{checkpoint_row}
 use Rattle.state_rows.proofs.Lawful.{row_lawful}
 use Rattle.state_rows.proofs.reading.decode_row.Goals as goal
