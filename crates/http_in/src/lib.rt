@@ -48,4 +48,6 @@ pub use place::{Place, State};
 pub use reader::Reader;
 
 #[cfg(test)]
+mod table;
+#[cfg(test)]
 mod tests;
