@@ -1,4 +1,4 @@
-use Rattle.std.proofs.Common.{◌≡◌, ℕ, List, false, IsTrue}
+use Rattle.std.proofs.Common.{◌≡◌, ℕ, List, false}
 use Rattle.gate_journal.specs.Journal.{is_pending, IsSettled}
 use Rattle.fh_world.specs.Memory.{memory_seen, memory_may_leave}
 use Rattle.gate_journal.proofs.tests.a_fault_at_any_call_is_made_good_by_one_more_try.Given as goal
