@@ -2,6 +2,7 @@ pub mod Connection
 pub mod FolderRequests
 pub mod History
 pub mod Json
+pub mod KeyOrder
 pub mod Keys
 pub mod Paths
 pub mod ReplyText

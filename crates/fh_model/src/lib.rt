@@ -7,9 +7,11 @@
 mod changes;
 mod commands;
 mod items;
+mod keys;
 mod limits;
 mod memory;
 mod names;
+mod paths;
 mod replies;
 mod rows;
 mod state;
@@ -18,11 +20,14 @@ mod text;
 pub use changes::{Change, Changes, Node};
 pub use commands::{Act, Cmd};
 pub use items::{Copies, Items, copy_all};
+pub use keys::Key;
 pub use limits::{
-    LAST_SECOND, NAME_MAX_BYTES, REQUESTS_MAX, SPENT_AT, TOKEN_MAX_BYTES, TOKEN_MIN_BYTES,
+    ID_DIGITS, LAST_SECOND, NAME_MAX_BYTES, NAMES_MAX, NAMESPACE_MAX_DIGITS, PATH_MAX_BYTES, REQUESTS_MAX,
+    REV_MIN_DIGITS, SPENT_AT, TOKEN_MAX_BYTES, TOKEN_MIN_BYTES,
 };
 pub use memory::NoMemory;
 pub use names::{Name, Names, Tags};
+pub use paths::{PathArg, Place};
 pub use replies::{Entry, Refusal, Reply};
 pub use rows::{Members, Row};
 pub use state::{Namespace, Next, User};
