@@ -40,3 +40,6 @@ pub use sink::Sink;
 pub use source::Source;
 pub use std_ends::{StdSink, StdSource};
 pub use through::write_through;
+
+#[cfg(test)]
+mod tests;

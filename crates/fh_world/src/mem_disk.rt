@@ -74,9 +74,10 @@ impl MemDisk {
         self.calls.fail(numbers)
     }
 
-    /// A disk that holds what a crash may leave of this one. Of each write that no sync followed, two bits of the
-    /// choice, the lowest first and all of them again from the 33rd write on, say whether it was lost (0), whole
-    /// (1), cut after its first half (2) or before its last byte (3).
+    /// A disk that holds what a crash may leave of this one. Two bits of the choice stand for each call that wrote
+    /// or synced a file, the newest call's the lowest, and all of them again from the 33rd newest on. Of a write
+    /// that no sync followed they say whether it was lost (0), whole (1), cut after its first half (2) or before its
+    /// last byte (3).
     pub fn crashed(&self, choice: u64) -> Result<MemDisk, NoMemory>
         ensures left { IfOk result (λ disk. (g : FileNo) → memory_may_leave self.now g (memory_seen disk g)) }
         ensures durable { IfOk result (λ disk. (g : FileNo) → Only (memory_seen disk g) (memory_may_leave disk g)) }

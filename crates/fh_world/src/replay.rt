@@ -7,16 +7,17 @@ use crate::FileNo;
 use crate::contents::{Contents, Step, overwritten};
 use std::alloc::{AllocError, Global};
 
-/// What a crash after these calls leaves, by a choice for each write.
+/// What a crash after these calls leaves, by two bits of the choice for each, the newest call's the lowest.
 pub(crate) fn replayed(alloc: Global, steps: &[Step], choice: u64) -> Result<Contents, AllocError>
     ensures { IfOk result (λ image. (g : FileNo) → MayLeave (reverse steps.now) g (content image g)) }
 {
     let mut seen = Contents::empty(alloc);
     let mut image = Contents::empty(alloc);
-    let mut choice = choice;
+    let turns = (steps.len() % 32) as u32;
+    let mut choice = choice.rotate_right(2 * turns);
     for step in steps {
+        choice = choice.rotate_left(2);
         replay(alloc, step, &mut seen, &mut image, choice % 4)?;
-        choice = choice.rotate_right(2);
     }
     Ok(image)
 }

@@ -1,0 +1,4 @@
+pub mod SlotLemmas
+pub mod RestLemmas
+pub mod RecordLemmas
+pub mod StateLemmas
