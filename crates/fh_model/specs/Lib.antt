@@ -5,5 +5,7 @@ pub mod Json
 pub mod Keys
 pub mod Paths
 pub mod ReplyText
+pub mod RowRules
+pub mod Rows
 pub mod State
 pub mod Step
