@@ -4,3 +4,4 @@ pub mod Bytes
 pub mod Replay
 pub mod Memory
 pub mod Seconds
+pub mod Adapters

@@ -59,8 +59,12 @@ pub struct RealClock<R> {
 }
 
 impl<R: std::rt::Clock> RealClock<R> {
-    /// The clock of this runtime.
-    pub fn new(rt: R) -> RealClock<R> {
+    ghost use Rattle.fh_world.specs.Adapters.{last_of};
+
+    /// The clock of this runtime, whose last second is 0.
+    pub fn new(rt: R) -> RealClock<R>
+        ensures { last_of result ≡ 0 }
+    {
         RealClock { rt, last: 0 }
     }
 }

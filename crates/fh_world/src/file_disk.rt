@@ -1,4 +1,4 @@
-ghost use Rattle.std.specs.Prelude.{[], false};
+ghost use Rattle.std.specs.Prelude.{◌≡◌, [], false};
 ghost use Rattle.std.proofs.lemmas.Bool.{false≢true};
 ghost use Rattle.fh_world.specs.declared.disk.FileNo.TheVariants.{Head};
 ghost use Rattle.fh_world.specs.Causes.{HasCause, CountsOnce};
@@ -29,9 +29,13 @@ struct OpenFiles {
 }
 
 impl FileDisk {
+    ghost use Rattle.fh_world.specs.Adapters.{disk_faults};
+
     /// The files of a folder that is there, each made where it isn't. Where one of them can't be opened, the disk's
     /// first call fails, and so does each one after it.
-    pub fn open<R: Files<File = File> + AllocGlobal>(rt: &R, folder: &str) -> FileDisk {
+    pub fn open<R: Files<File = File> + AllocGlobal>(rt: &R, folder: &str) -> FileDisk
+        ensures { disk_faults result ≡ 0 }
+    {
         FileDisk {
             files: OpenFiles::of(rt, folder).ok(),
             faults: 0,

@@ -1,4 +1,4 @@
-ghost use Rattle.std.specs.Prelude.{[], None};
+ghost use Rattle.std.specs.Prelude.{◌≡◌, [], None};
 
 use crate::faults::counted;
 use crate::{Failed, Sink, Source};
@@ -12,8 +12,12 @@ pub struct StdSource<R> {
 }
 
 impl<R> StdSource<R> {
+    ghost use Rattle.fh_world.specs.Adapters.{source_faults};
+
     /// A source over this reader.
-    pub fn new(inner: R) -> StdSource<R> {
+    pub fn new(inner: R) -> StdSource<R>
+        ensures { source_faults result ≡ 0 }
+    {
         StdSource { inner, faults: 0 }
     }
 }
@@ -41,8 +45,12 @@ pub struct StdSink<W> {
 }
 
 impl<W> StdSink<W> {
+    ghost use Rattle.fh_world.specs.Adapters.{sink_faults};
+
     /// A sink over this writer.
-    pub fn new(inner: W) -> StdSink<W> {
+    pub fn new(inner: W) -> StdSink<W>
+        ensures { sink_faults result ≡ 0 }
+    {
         StdSink { inner, faults: 0 }
     }
 }

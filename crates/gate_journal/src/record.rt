@@ -43,7 +43,7 @@ impl Record {
     pub(crate) fn framed(&self) -> &[u8]
         ensures { result.now ≡ behind_gate self.now ++ 0 ∷ [] }
     {
-        &self.framed
+        self.framed.as_slice()
     }
 }
 

@@ -1,0 +1,11 @@
+pub mod Laws
+pub mod KindLaws
+pub mod Whole
+pub mod FieldLaws
+pub mod Utf8Chars
+pub mod Utf8
+pub mod ListLaws
+pub mod TextLoop
+pub mod Loop
+pub mod Moments
+pub mod Writing

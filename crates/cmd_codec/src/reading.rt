@@ -1,0 +1,82 @@
+ghost use Rattle.std.specs.Prelude.{◌≡◌, ◌⊎◌, ℕ, true, IfOk, Ok, Err};
+ghost use Rattle.byte_formats.specs.Spelling.{Spells, IsFirstBad, whole_at};
+ghost use Rattle.byte_formats.specs.Given.{Gives};
+ghost use Rattle.byte_formats.specs.declared.fault.CodecFault.TheVariants.{Bad, NoMemory};
+ghost use Rattle.fh_model.specs.declared.commands.Cmd.{Cmd};
+ghost use Rattle.cmd_codec.specs.Commands.{act, command, is_kind, make_folder};
+
+use crate::kinds::{MAKE_FOLDER, is_kind};
+use byte_formats::{CodecFault, Field, Stop, moment_at};
+use fh_model::{Act, Cmd, Text};
+use std::alloc::Global;
+
+#[tactic(auto, unfolding(crate::specs::Commands::make_folder))]
+fn make_folder_at(alloc: Global, bytes: &[u8]) -> Result<(Act, &[u8]), Stop>
+    ensures { Gives (λ x. (x.0, x.1.now)) result (make_folder.read bytes.now) }
+{
+    let (user, rest) = u64::read(alloc, bytes)?;
+    let (path, rest) = Text::read(alloc, rest)?;
+    let (rename, rest) = bool::read(alloc, rest)?;
+    Ok((Act::MakeFolder { user, path, rename }, rest))
+}
+
+/// Takes the fields of an act of this kind.
+fn act_at(alloc: Global, kind: u8, bytes: &[u8]) -> Result<(Act, &[u8]), Stop>
+    requires { is_kind kind ≡ true }
+    ensures { Gives (λ x. (x.0, x.1.now)) result ((act kind).read bytes.now) }
+{
+    match kind {
+        MAKE_FOLDER => make_folder_at(alloc, bytes),
+        _ => unreachable!(),
+    }
+}
+
+#[tactic(auto, unfolding(crate::specs::Commands::command))]
+fn command_at(alloc: Global, bytes: &[u8]) -> Result<(Cmd, &[u8]), Stop>
+    ensures { Gives (λ x. (x.0, x.1.now)) result (command.read bytes.now) }
+{
+    match bytes {
+        [] => Err(Stop::Bad(0)),
+        [kind, rest @ ..] => {
+            if !is_kind(*kind) {
+                return Err(Stop::Bad(bytes.len()));
+            }
+            let (seat, rest) = u64::read(alloc, rest)?;
+            let (at, rest) = moment_at(alloc, rest)?;
+            let (act, rest) = act_at(alloc, *kind, rest)?;
+            Ok((Cmd { seat, at, act }, rest))
+        }
+    }
+}
+
+/// Takes a command that ends where the bytes do.
+fn whole_command(alloc: Global, bytes: &[u8]) -> Result<Cmd, Stop>
+    ensures { Gives (λ cmd. cmd) result (whole_at command.read bytes.now) }
+{
+    let (cmd, rest) = command_at(alloc, bytes)?;
+    if !rest.is_empty() {
+        return Err(Stop::Bad(rest.len()));
+    }
+    Ok(cmd)
+}
+
+/// The command that all of the bytes spell.
+///
+/// `Bad` comes just where they spell none, with the place of the first bad byte, and `NoMemory` where there is no
+/// room for the command.
+pub fn decode(alloc: Global, bytes: &[u8]) -> Result<Cmd, CodecFault>
+    // What is given is spelled so.
+    ensures found { IfOk result (λ cmd. Spells command bytes.now cmd) }
+    // What is spelled so is given, unless memory runs out.
+    ensures only { (cmd : Cmd) → Spells command bytes.now cmd → (result ≡ Ok cmd) ⊎ (result ≡ Err NoMemory) }
+    // The bytes spell nothing, and this is the first bad place.
+    ensures bad { (place : ℕ) → result ≡ Err (Bad place) → IsFirstBad command bytes.now place }
+{
+    match whole_command(alloc, bytes) {
+        Ok(cmd) => Ok(cmd),
+        Err(Stop::NoMemory) => Err(CodecFault::NoMemory),
+        Err(Stop::Bad(left)) => Err(CodecFault::Bad {
+            place: bytes.len() - left,
+        }),
+    }
+}

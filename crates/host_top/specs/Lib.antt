@@ -1,0 +1,3 @@
+pub mod Pipe
+pub mod Status
+pub mod Words

@@ -1,0 +1,36 @@
+-- The statuses of the program: their lines, and the ends of a connection that they tell.
+use Rattle.std.specs.Prelude.{ℕ, codes, List, []}
+use Rattle.session_http.specs.declared.conn.ConnEnd.{ConnEnd}
+use Rattle.session_http.specs.declared.conn.ConnEnd.TheVariants as end
+use Rattle.host_top.specs.declared.status.Status.{Status}
+use Rattle.host_top.specs.declared.status.Status.TheVariants.{Done, Usage, NoMemory, ReadFault, WriteFault, Cut, Bad, Spent}
+
+abbrev pub line_of : Status → List ℕ
+line_of Done = []
+line_of Usage = codes "filehost: usage"
+line_of NoMemory = codes "filehost: out of memory"
+line_of ReadFault = codes "filehost: read fault"
+line_of WriteFault = codes "filehost: write fault"
+line_of Cut = codes "filehost: input cut"
+line_of Bad = codes "filehost: bad request"
+line_of Spent = codes "filehost: too many requests"
+
+-- the program's exit codes
+abbrev pub code_of : Status → ℕ
+code_of Done = 0
+code_of Usage = 2
+code_of NoMemory = 5
+code_of ReadFault = 6
+code_of WriteFault = 7
+code_of Cut = 8
+code_of Bad = 9
+code_of Spent = 10
+
+abbrev pub status_of : ConnEnd → Status
+status_of end.Ended = Done
+status_of end.Cut = Cut
+status_of end.Bad = Bad
+status_of end.ReadFault = ReadFault
+status_of end.WriteFault = WriteFault
+status_of end.NoMemory = NoMemory
+status_of end.Spent = Spent

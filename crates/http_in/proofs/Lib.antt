@@ -1,0 +1,14 @@
+pub mod BodyMoves
+pub mod BodyRuns
+pub mod Endings
+pub mod FieldSteps
+pub mod HeadFacts
+pub mod LineEndings
+pub mod LineFacts
+pub mod OneBody
+pub mod OneReading
+pub mod PartsSame
+pub mod Sizes
+pub mod SourceFacts
+pub mod MoreBytes
+pub mod ReadingFacts

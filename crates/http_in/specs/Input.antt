@@ -1,0 +1,9 @@
+-- Bytes at hand, and those that a source gives behind them.
+use Rattle.std.specs.Prelude.{◌≡◌, ℕ, List, ◌++◌, Option}
+use Rattle.fh_world.specs.Bytes.{Moves}
+
+-- the source gave some bytes, and they stand behind those that were at hand
+pub record Fills {S : Type 0} (given left : S → Option (List ℕ)) (old new : S) (held now : List ℕ) : Type 0 where
+  pub fresh : List ℕ
+  pub moves : Moves given left old new fresh
+  pub behind : now ≡ held ++ fresh

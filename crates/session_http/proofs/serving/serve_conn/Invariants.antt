@@ -1,0 +1,19 @@
+use Rattle.std.proofs.Common.{◌≡◌, ◌≤◌}
+use Rattle.session_http.specs.Talk.{terms, moment}
+use Rattle.session_http.proofs.Serves.{SoFar}
+use Rattle.session_http.proofs.serving.serve_conn.Given as goal
+
+abbrev pub invariant-requests : goal.invariant-requests
+invariant-requests g l =
+    let P = g.P.Port in let S = g.S.Source in let K = g.K.Sink in
+    record {
+      so_far : SoFar (terms P.alone (g.C.Clock.second l.fn.clock) l.admin) (moment P S K l.fn.port l.fn.conn.source l.fn.conn.sink)
+          (moment P S K l.port l.conn.source l.conn.sink) l.counter l.conn.unread.items;
+      port_later : P.faults l.fn.port ≤ P.faults l.port;
+      went : P.went l.fn.port l.port;
+      source_place : S.place l.conn.source ≡ S.place l.fn.conn.source;
+      sink_place : K.place l.conn.sink ≡ K.place l.fn.conn.sink;
+      source_later : S.faults l.fn.conn.source ≤ S.faults l.conn.source;
+      sink_later : K.faults l.fn.conn.sink ≤ K.faults l.conn.sink;
+      second : g.C.Clock.second l.clock ≡ g.C.Clock.second l.fn.clock;
+    }
