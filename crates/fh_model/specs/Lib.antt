@@ -6,5 +6,7 @@ pub mod KeyOrder
 pub mod Keys
 pub mod Paths
 pub mod ReplyText
+pub mod RowRules
+pub mod Rows
 pub mod State
 pub mod Step

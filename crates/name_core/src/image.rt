@@ -1,15 +1,17 @@
-ghost use Rattle.std.specs.Prelude.{◌≡◌, [], IfOk};
+ghost use Rattle.std.specs.Prelude.{◌≡◌, ℕ, [], IfOk, Ok, Err, IsErrOf};
+ghost use Rattle.fh_model.specs.Rows.{rows_of, state_of_rows};
 ghost use Rattle.fh_model.specs.State.{opening};
 ghost use Rattle.fh_model.specs.History.{Kept, state_of, next_of, reply_of};
 
+use crate::RowsFault;
 use crate::machine::{Done, Machine};
-use fh_model::{Cmd, Copies, NoMemory, Reply, copy_all};
+use fh_model::{Cmd, Copies, NoMemory, Reply, Row, copy_all};
 use std::alloc::Global;
 use std::marker::Model;
 use std::sync::Arc;
 
-/// A state of the machine that never changes, with the commands that were applied since it was made by `empty` or
-/// `forget`. Contracts see the state that it started from and these commands.
+/// A state of the machine that never changes, with the commands that were applied since it was made by `empty`,
+/// `from_rows` or `forget`. Contracts see the state that it started from and these commands.
 #[derive(Drop)]
 pub struct Image {
     start: Arc<Machine, Global>,
@@ -42,6 +44,28 @@ impl Image {
             machine,
             history: Vec::new(alloc),
         })
+    }
+
+    /// The state that the rows of a checkpoint stand for, keeping no command. `Bad` comes where a rule is broken.
+    pub fn from_rows(alloc: Global, rows: &[Row]) -> Result<Image, RowsFault>
+        ensures start { IfOk result (λ image. state_of_rows rows.now ≡ Ok image.start) }
+        ensures history { IfOk result (λ image. image.history ≡ []) }
+        ensures bad { (row : ℕ) → IsErrOf result (RowsFault.Bad row) → state_of_rows rows.now ≡ Err row }
+    {
+        let machine = Machine::from_rows(alloc, rows)?;
+        let start = Arc::new(alloc, machine.copy()?)?;
+        Ok(Image {
+            start,
+            machine,
+            history: Vec::new(alloc),
+        })
+    }
+
+    /// The rows of the state: its counters, its users and its namespaces, without their changes.
+    pub fn rows(&self) -> Result<Vec<Row>, NoMemory>
+        ensures { IfOk result (λ rows. rows.items ≡ rows_of (state_of self.now)) }
+    {
+        self.machine.rows()
     }
 
     /// The same state, keeping no command.

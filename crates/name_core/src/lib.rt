@@ -4,9 +4,13 @@
 //! by the step of the machine, never a second truth. The body is the plain one: lists that are copied at each change.
 #![tactic(auto)]
 
+mod faults;
 mod image;
 mod keys;
 mod machine;
 mod paths;
+mod row_rules;
+mod rows;
 
+pub use faults::RowsFault;
 pub use image::Image;

@@ -1,16 +1,20 @@
 //! The plain machine over lists: one step is what the definition says.
-ghost use Rattle.std.specs.Prelude.{◌≡◌, ◌<◌, ◌^◌, List, IfOk, map, option_copied, find, ◌==◌};
-ghost use Rattle.std.specs.List.{list_any};
+ghost use Rattle.std.specs.Prelude.{◌≡◌, ◌<◌, ◌^◌, ℕ, false, true, List, IfOk, Ok, Err, IsErrOf, map, option_copied, find, ◌==◌};
+ghost use Rattle.std.specs.List.{list_all, list_any};
+ghost use Rattle.fh_model.specs.Rows.{rows_of, state_of_rows};
 ghost use Rattle.fh_model.specs.State.{opening, user_of, changes_of, next_is_spent, space_is_spent, is_spent, grown};
 ghost use Rattle.fh_model.specs.Step.{step, with_folder, folder_at, make_folder, act_on, refused, refusal_of};
 ghost use Rattle.fh_model.specs.Paths.{names_of};
-ghost use Rattle.name_core.specs.Machine.{Does};
+ghost use Rattle.name_core.specs.Machine.{Does, length_fits};
 
+use crate::RowsFault;
 use crate::keys::is_taken;
 use crate::paths::names_of;
+use crate::row_rules::{counters_in, first_bad};
+use crate::rows::{namespaces_in, put_namespaces, put_users, users_in};
 use fh_model::{
     Act, Change, Cmd, Copies, Entry, Items, Names, Namespace, Next, NoMemory, Node, Refusal, Reply,
-    SPENT_AT, Text, User, copy_all,
+    Row, SPENT_AT, Text, User, copy_all,
 };
 use std::alloc::Global;
 use std::marker::Model;
@@ -28,11 +32,16 @@ pub(crate) struct Machine {
 }
 
 impl Model for Machine {
+    ghost use Rattle.std.specs.Prelude.{◌≡◌, true};
+    ghost use Rattle.std.specs.List.{list_all};
     ghost use Rattle.fh_model.specs.State.{State};
+    ghost use Rattle.name_core.specs.Machine.{length_fits};
 
     ghost Value = { State };
 
     ghost view = { λ m. record { users = m.users.items; namespaces = m.namespaces.items; next = m.next; moment = m.moment } };
+
+    ghost invariant = { λ m. list_all length_fits m.namespaces.items ≡ true };
 }
 
 /// What a command was answered, with the next state where it enters.
@@ -73,6 +82,45 @@ impl Machine {
             },
             moment: 0,
         })
+    }
+
+    /// The state that rows stand for.
+    pub(crate) fn from_rows(alloc: Global, rows: &[Row]) -> Result<Machine, RowsFault>
+        ensures state { IfOk result (λ machine. state_of_rows rows.now ≡ Ok machine) }
+        ensures bad { (row : ℕ) → IsErrOf result (RowsFault.Bad row) → state_of_rows rows.now ≡ Err row }
+    {
+        if let Some(row) = first_bad(rows) {
+            return Err(RowsFault::Bad { row });
+        }
+        let Some((next, moment)) = counters_in(rows) else {
+            return Err(RowsFault::Bad { row: rows.len() });
+        };
+        let users = users_in(alloc, rows)?;
+        let namespaces = namespaces_in(alloc, rows)?;
+        Ok(Machine {
+            users,
+            namespaces,
+            next,
+            moment,
+        })
+    }
+
+    /// The rows of the state.
+    pub(crate) fn rows(&self) -> Result<Vec<Row>, NoMemory>
+        ensures { IfOk result (λ rows. rows.items ≡ rows_of self.now) }
+    {
+        let mut rows = Vec::new(*self.users.allocator());
+        rows.push(Row::Counters {
+            rev: self.next.rev,
+            id: self.next.id,
+            session: self.next.session,
+            user: self.next.user,
+            namespace: self.next.namespace,
+            moment: self.moment,
+        })?;
+        put_users(&mut rows, &self.users)?;
+        put_namespaces(&mut rows, &self.namespaces)?;
+        Ok(rows)
     }
 
     pub(crate) fn copy(&self) -> Result<Machine, NoMemory>
@@ -119,7 +167,8 @@ impl Machine {
 
     /// The machine with one more folder in a namespace.
     fn with_folder(&self, moment: u64, space: u64, names: Names) -> Result<Done, NoMemory>
-        requires { self.now.next.id < 2 ^ 62 }
+        requires id { self.now.next.id < 2 ^ 62 }
+        requires lengths { list_any space_is_spent self.now.namespaces ≡ false }
         ensures { IfOk result (λ done. Does (with_folder self.now moment space names) self.now done.next done.reply) }
     {
         let id = self.next.id;
@@ -143,7 +192,8 @@ impl Machine {
     }
 
     fn folder_at(&self, moment: u64, space: u64, names: Names) -> Result<Done, NoMemory>
-        requires { self.now.next.id < 2 ^ 62 }
+        requires id { self.now.next.id < 2 ^ 62 }
+        requires lengths { list_any space_is_spent self.now.namespaces ≡ false }
         ensures { IfOk result (λ done. Does (folder_at self.now moment space names) self.now done.next done.reply) }
     {
         if is_taken(self.changes(space), names.as_slice()) {
@@ -153,7 +203,8 @@ impl Machine {
     }
 
     fn make_folder(&self, moment: u64, user: u64, path: &Text) -> Result<Done, NoMemory>
-        requires { self.now.next.id < 2 ^ 62 }
+        requires id { self.now.next.id < 2 ^ 62 }
+        requires lengths { list_any space_is_spent self.now.namespaces ≡ false }
         ensures { IfOk result (λ done. Does (make_folder self.now moment (user_of self.now user) (names_of path.now)) self.now done.next done.reply) }
     {
         let names = names_of(*self.users.allocator(), path)?;
