@@ -22,8 +22,8 @@ pub use commands::{Act, Cmd};
 pub use items::{Copies, Items, copy_all};
 pub use keys::Key;
 pub use limits::{
-    ID_DIGITS, LAST_SECOND, NAME_MAX_BYTES, NAMES_MAX, NAMESPACE_MAX_DIGITS, PATH_MAX_BYTES, REQUESTS_MAX,
-    REV_MIN_DIGITS, SPENT_AT, TOKEN_MAX_BYTES, TOKEN_MIN_BYTES,
+    ID_DIGITS, LAST_SECOND, NAME_MAX_BYTES, NAMES_MAX, NAMESPACE_MAX_DIGITS, PATH_MAX_BYTES,
+    REQUESTS_MAX, REV_MIN_DIGITS, SPENT_AT, TOKEN_MAX_BYTES, TOKEN_MIN_BYTES,
 };
 pub use memory::NoMemory;
 pub use names::{Name, Names, Tags};

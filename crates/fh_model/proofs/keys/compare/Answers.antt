@@ -20,5 +20,5 @@ returns c =
     let n = length c.loop-name.yielded in
     let shared : n ≡ min (length names) (length others) = zip_end names others c.loop-name.yielded _ _ c.next.new.self _ (cc) (cc) c.loop-name.yielded_by c.in-None.is c.next.ensures.steps in
     let at_end : nat_cmp (length names) (length others) ≡ key_cmp (drop n names) (drop n others) =
-        ends (drop n names) (drop n others) _ _ n (omega (arith, length-drop n names)) (omega (arith, length-drop n others)) shared in
+    ends (drop n names) (drop n others) _ _ n (omega (arith, length-drop n names)) (omega (arith, length-drop n others)) shared in
     c.cmp.ensures ∙ at_end ∙ c.loop-name.invariant

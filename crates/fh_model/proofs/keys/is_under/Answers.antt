@@ -32,5 +32,5 @@ returns c =
     let n = length c.loop-name.yielded in
     let shared : n ≡ min (length names) (length base) = zip_end names base c.loop-name.yielded _ _ c.next.new.self _ (cc) (cc) c.loop-name.yielded_by c.in-None.is c.next.ensures.steps in
     let at_end : is_under (drop n names) (drop n base) ≡ true =
-        ends (drop n names) (drop n base) _ _ n (omega (arith, length-drop n names)) (omega (arith, length-drop n base)) shared (omega arith) in
+    ends (drop n names) (drop n base) _ _ n (omega (arith, length-drop n names)) (omega (arith, length-drop n base)) shared (omega arith) in
     sym at_end ∙ c.loop-name.invariant
