@@ -4,7 +4,7 @@ use Rattle.std.proofs.lemmas.List.{take_all, take_at}
 use Rattle.fh_world.specs.declared.FileNo.{FileNo}
 use Rattle.fh_world.specs.Disk.{Files, Overwritten, Torn, Only, Rests, Writes, LeavesOnly, LeavesTorn}
 use Rattle.fh_world.proofs.Moments.{weaker, joined}
-use Rattle.gate_journal.specs.Slot.{behind_gate, records, staged, AllShort, Held, found, IsAtRest, IsStaged, IsBeforeOrAfter}
+use Rattle.gate_journal.specs.Slot.{behind_gate, records, staged, AllShort, Held, found, IsAtRest, IsStaged, IsBefore, IsBeforeOrAfter}
 use Rattle.gate_journal.specs.Journal.{IsSettled, IsWaiting, is_pending, LeavesSlot, KeepsOthers}
 use Rattle.gate_journal.specs.declared.journal.Journal.{Journal}
 use Rattle.gate_journal.proofs.SlotLemmas.{short_from, length-records-push, length-behind_gate, staged_one}
@@ -134,6 +134,16 @@ module _ {D : Type 0} (moment : D → ℕ) (left_since : D → ℕ → Files →
       let torn = subst (λ (p : ℕ). Torn (p + 1) n l.torn.0 (image j.slot)) is.place l.torn.2 in
       record {
         own = inl (found-at_rest bodies (image j.slot) (settled_short seen (may_leave old) j bodies is) (torn_behind bodies n l.torn.0 (image j.slot) (is.left l.torn.0 l.torn.1) torn));
+        others = l.others;
+      })
+
+  -- and nothing else
+  pub before_run : (seen : Files) (n : ℕ) → IsSettled seen (may_leave old) j bodies → LeavesOnly moment left_since old mid (LeavesTorn j.slot (j.end + 1) n (may_leave old))
+      → LeavesOnly moment left_since old mid (LeavesSlot j.slot (may_leave old) (IsBefore bodies))
+  before_run seen n is run = weaker moment left_since old mid _ _ run (λ image l.
+      let torn = subst (λ (p : ℕ). Torn (p + 1) n l.torn.0 (image j.slot)) is.place l.torn.2 in
+      record {
+        own = found-at_rest bodies (image j.slot) (settled_short seen (may_leave old) j bodies is) (torn_behind bodies n l.torn.0 (image j.slot) (is.left l.torn.0 l.torn.1) torn);
         others = l.others;
       })
 

@@ -62,6 +62,10 @@ pub record IsStaged (bodies news : List (List ℕ)) (bytes : List ℕ) : Type 0 
   pub front : take (length (records bodies)) bytes ≡ records bodies
   pub behind : take (length (staged news)) (drop (length (records bodies) + 1) bytes) ≡ staged news
 
+-- the slot stands for these records
+abbrev pub IsBefore : List (List ℕ) → List ℕ → Type 0
+IsBefore bodies bytes = found bytes ≡ Held bodies
+
 -- the slot stands for these records, with all of the new ones or with none
 abbrev pub IsBeforeOrAfter : List (List ℕ) → List (List ℕ) → List ℕ → Type 0
 IsBeforeOrAfter bodies news bytes = (found bytes ≡ Held bodies) ⊎ (found bytes ≡ Held (bodies ++ news))

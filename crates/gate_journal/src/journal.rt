@@ -1,7 +1,7 @@
 ghost use Rattle.std.specs.Prelude.{◌≡◌, ◌≤◌, ◌^◌, ◌∷◌, ◌++◌, [], ℕ, List, Option, None, true, false, IsTrue, OnOk, OnErr, MatchBool};
 ghost use Rattle.std.specs.Option.{ForSome};
 ghost use Rattle.fh_world.specs.Causes.{HasCause, CountsOnce};
-ghost use Rattle.gate_journal.specs.Slot.{IsBeforeOrAfter};
+ghost use Rattle.gate_journal.specs.Slot.{IsBefore, IsBeforeOrAfter};
 
 use crate::{AppendFault, Record};
 use fh_world::{Disk, Failed, FileNo, write_through};
@@ -65,6 +65,9 @@ impl Journal {
         ensures unchanged { OnErr result (is_pending self.new ≡ false → self.new ≡ self.old) }
         ensures any_moment { IsTrue D.tells → (bodies : List (List ℕ)) → Settled D.Disk disk.old self.old bodies
             → AnyMoment D.Disk disk.old disk.new (slot_of self.old) (IsBeforeOrAfter bodies (framed.now ∷ [])) }
+        // A fault before the gate is written leaves the record at no moment.
+        ensures unopened { OnErr result (is_pending self.new ≡ false → IsTrue D.tells → (bodies : List (List ℕ)) → Settled D.Disk disk.old self.old bodies
+            → AnyMoment D.Disk disk.old disk.new (slot_of self.old) (IsBefore bodies)) }
         ensures others { IsTrue D.tells → Keeps D.Disk (slot_of self.old) disk.old disk.new }
         ensures slot { slot_of self.new ≡ slot_of self.old }
         ensures place { D.place disk.new ≡ D.place disk.old }

@@ -13,6 +13,15 @@ pub enum Status {
     /// The words of the command line are not in the form.
     Usage,
 
+    /// The head file is another program's, from this byte on.
+    NotAStore { place: u64 },
+
+    /// The record at this byte of the store's slot is damaged, or stands where it may not.
+    Damaged { place: u64 },
+
+    /// The disk failed as the store was opened or as a command was to enter.
+    DiskFault,
+
     /// Memory was wanting.
     NoMemory,
 
@@ -37,16 +46,19 @@ pub fn status_line(alloc: Global, status: &Status) -> Result<Text, NoMemory>
     ensures { IfOk result (λ line. line ≡ line_of status.now) }
 {
     let line = match status {
-        Status::Done => "",
-        Status::Usage => "filehost: usage",
-        Status::NoMemory => "filehost: out of memory",
-        Status::ReadFault => "filehost: read fault",
-        Status::WriteFault => "filehost: write fault",
-        Status::Cut => "filehost: input cut",
-        Status::Bad => "filehost: bad request",
-        Status::Spent => "filehost: too many requests",
+        Status::Done => String::from_str(alloc, "")?,
+        Status::Usage => String::from_str(alloc, "filehost: usage")?,
+        Status::NotAStore { place } => format!(in alloc; "filehost: not a store at byte {place}")?,
+        Status::Damaged { place } => format!(in alloc; "filehost: damaged at byte {place}")?,
+        Status::DiskFault => String::from_str(alloc, "filehost: disk fault")?,
+        Status::NoMemory => String::from_str(alloc, "filehost: out of memory")?,
+        Status::ReadFault => String::from_str(alloc, "filehost: read fault")?,
+        Status::WriteFault => String::from_str(alloc, "filehost: write fault")?,
+        Status::Cut => String::from_str(alloc, "filehost: input cut")?,
+        Status::Bad => String::from_str(alloc, "filehost: bad request")?,
+        Status::Spent => String::from_str(alloc, "filehost: too many requests")?,
     };
-    Ok(Text::new(String::from_str(alloc, line)?))
+    Ok(Text::new(line))
 }
 
 /// The code with which the program ends.
@@ -56,6 +68,8 @@ pub fn exit_code(status: Status) -> u8
     match status {
         Status::Done => 0,
         Status::Usage => 2,
+        Status::NotAStore { .. } | Status::Damaged { .. } => 3,
+        Status::DiskFault => 4,
         Status::NoMemory => 5,
         Status::ReadFault => 6,
         Status::WriteFault => 7,

@@ -82,6 +82,20 @@ impl Image {
         })
     }
 
+    /// The commands that were applied, the oldest first.
+    pub fn history(&self) -> &[Cmd]
+        ensures { result.now ≡ self.now.history }
+    {
+        &self.history
+    }
+
+    /// The last moment of the state.
+    pub fn moment(&self) -> u64
+        ensures { result ≡ (state_of self.now).moment }
+    {
+        self.machine.moment()
+    }
+
     /// An equal image.
     pub fn copy(&self) -> Result<Image, NoMemory>
         ensures { IfOk result (λ copy. copy ≡ self.now) }

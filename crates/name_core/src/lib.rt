@@ -14,3 +14,6 @@ mod rows;
 
 pub use faults::RowsFault;
 pub use image::Image;
+
+#[cfg(test)]
+mod tests;

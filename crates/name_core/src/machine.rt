@@ -136,6 +136,13 @@ impl Machine {
         })
     }
 
+    /// The last moment.
+    pub(crate) fn moment(&self) -> u64
+        ensures { result ≡ self.now.moment }
+    {
+        self.moment
+    }
+
     fn user(&self, number: u64) -> Option<&User>
         ensures { option_copied result ≡ user_of self.now number }
     {

@@ -6,7 +6,7 @@ use Rattle.std.proofs.lemmas.List.Elements.{recursion_from_All, All-from_recursi
 use Rattle.std.specs.Char.{is_ascii_alphanumeric}
 use Rattle.fh_world.specs.Causes.{Rose}
 use Rattle.session_http.specs.declared.conn.ConnEnd.{ConnEnd}
-use Rattle.session_http.specs.declared.conn.ConnEnd.TheVariants.{Ended, Cut, Bad, ReadFault, WriteFault, NoMemory, Spent}
+use Rattle.session_http.specs.declared.conn.ConnEnd.TheVariants.{Ended, Cut, Bad, ReadFault, WriteFault, DiskFault, NoMemory, Spent}
 use Rattle.std.specs.Io.KnownBytes.{prepend_known, IsAtEnd}
 use Rattle.fh_model.specs.declared.commands.Cmd.{Cmd}
 use Rattle.fh_model.specs.FolderRequests.{IsName, IsCut, IsBad, request_text}
@@ -72,6 +72,7 @@ ending_begins Bad token tail a x is e bad = bad_begins token tail a x is e bad
 ending_begins ReadFault token tail a x is e h = absurd h
 ending_begins WriteFault token tail a x is e h = absurd h
 ending_begins NoMemory token tail a x is e h = absurd h
+ending_begins DiskFault token tail a x is e h = absurd h
 ending_begins Spent token tail a x is e h = absurd h
 
 -- the requests that are still to be read
@@ -130,6 +131,7 @@ ended_is Bad token tail [] ns e is = absurd (nothing_good token tail (sym e) is)
 ended_is ReadFault token tail [] ns e is = absurd is
 ended_is WriteFault token tail [] ns e is = absurd is
 ended_is NoMemory token tail [] ns e is = absurd is
+ended_is DiskFault token tail [] ns e is = absurd is
 ended_is Spent token tail [] ns e is = absurd is
 
 -- or with a part of a request unread
@@ -142,6 +144,7 @@ cut_is Bad token rest tail [] ns e cut is = absurd (cut_good token tail [] rest 
 cut_is ReadFault token rest tail [] ns e cut is = absurd is
 cut_is WriteFault token rest tail [] ns e cut is = absurd is
 cut_is NoMemory token rest tail [] ns e cut is = absurd is
+cut_is DiskFault token rest tail [] ns e cut is = absurd is
 cut_is Spent token rest tail [] ns e cut is = absurd is
 
 -- or bytes were read that begin no request
@@ -154,28 +157,30 @@ bad_is Bad token rest left tail [] ns e bad is = refl
 bad_is ReadFault token rest left tail [] ns e bad is = absurd is
 bad_is WriteFault token rest left tail [] ns e bad is = absurd is
 bad_is NoMemory token rest left tail [] ns e bad is = absurd is
+bad_is DiskFault token rest left tail [] ns e bad is = absurd is
 bad_is Spent token rest left tail [] ns e bad is = absurd is
 
 -- where no fault rose, the end is the input's ending, or memory was wanting
 pub complete : (end : ConnEnd) (t : Terms) (before now : Moment) (names : List (List ℕ)) (ending : ConnEnd)
     → Served t before now end → Spells before.left t.token names ending
-    → (Rose before.read_faults now.read_faults → ⊥) → (Rose before.write_faults now.write_faults → ⊥)
+    → (Rose before.read_faults now.read_faults → ⊥) → (Rose before.write_faults now.write_faults → ⊥) → (Rose before.port_faults now.port_faults → ⊥)
     → (end ≡ ending) ⊎ (end ≡ NoMemory)
-complete NoMemory t before now names ending h s r w = inr refl
-complete ReadFault t before now names ending h s r w = absurd (r h.ends.2)
-complete WriteFault t before now names ending h s r w = absurd (w h.ends.1)
-complete Ended t before now names ending h s r w =
+complete DiskFault t before now names ending h s r w d = absurd (d h.ends.2)
+complete NoMemory t before now names ending h s r w d = inr refl
+complete ReadFault t before now names ending h s r w d = absurd (r h.ends.2)
+complete WriteFault t before now names ending h s r w d = absurd (w h.ends.1)
+complete Ended t before now names ending h s r w d =
     let f = front t before now (h.answered ++ h.broken) h.behind h.rest _ names ending h.talk s in
     let nil = at_end_nil now.left f.0 f.1 h.ends.3 in
     let none : [] ≡ h.rest ++ f.0 = sym (ap (λ l. l ++ f.0) h.ends.2 ∙ nil) in
     inl (ended_is ending t.token s.tail f.2.later f.2.named (none ∙ f.2.is) s.ends)
-complete Cut t before now names ending h s r w =
+complete Cut t before now names ending h s r w d =
     let f = front t before now (h.answered ++ h.broken) h.behind h.rest _ names ending h.talk s in
     let nil = at_end_nil now.left f.0 f.1 h.ends.3 in
     inl (cut_is ending t.token h.rest s.tail f.2.later f.2.named (sym (append-nil h.rest) ∙ ap (λ l. h.rest ++ l) (sym nil) ∙ f.2.is) h.ends.2 s.ends)
-complete Bad t before now names ending h s r w =
+complete Bad t before now names ending h s r w d =
     let f = front t before now (h.answered ++ h.broken) h.behind h.rest _ names ending h.talk s in
     inl (bad_is ending t.token h.rest f.0 s.tail f.2.later f.2.named f.2.is h.ends.2 s.ends)
-complete Spent t before now names ending h s r w =
+complete Spent t before now names ending h s r w d =
     let f = front t before now (h.answered ++ h.broken) h.behind h.rest _ names ending h.talk s in
     absurd (too_many (length h.answered) (length (h.answered ++ h.broken)) (length h.broken) (length names) (length-append h.answered h.broken) h.ends.0 f.2.fewer s.few)

@@ -1,5 +1,5 @@
 -- A talk goes on: bytes are read, a command enters, a reply is written.
-use Rattle.std.proofs.Common.{◌≡◌, ℕ, ◌<◌, ◌≤◌, arith, List, [], ◌∷◌, ◌++◌, Option, None, Some, Bool, IfSome, refl, sym, ◌∙◌, ap, subst, append_assoc, append-nil, flat_map}
+use Rattle.std.proofs.Common.{◌≡◌, ℕ, ◌<◌, ◌≤◌, arith, List, [], ◌∷◌, ◌++◌, Option, None, Some, Bool, IfSome, refl, sym, ◌∙◌, ap, subst, append_assoc, append-nil, flat_map, inl, inr}
 use Rattle.std.specs.Prelude.{All}
 use Rattle.std.proofs.lemmas.List.Concat.{flat_map-append}
 use Rattle.std.proofs.lemmas.List.Elements.{All-append, All-cons}
@@ -14,6 +14,7 @@ use Rattle.fh_model.specs.History.{Kept, state_of, state_after, with_more}
 use Rattle.fh_model.specs.ReplyText.{reply_text}
 use Rattle.fh_model.specs.State.{State}
 use Rattle.fh_model.proofs.Runs.{state_more, with_more_more, texts_more, gained_more}
+use Rattle.host_seat.specs.Port.{Leaves}
 use Rattle.session_http.specs.Talk.{Terms, Moment, IsTurn, spelled, Enters, Talk, first, added, replies}
 
 known_more : (o : Option (List ℕ)) (a b : List ℕ) → append_known (append_known o a) b ≡ append_known o (a ++ b)
@@ -61,8 +62,8 @@ after_read now given left faults = record now { given = given; left = left; read
 abbrev pub after_write : Moment → Option (List ℕ) → ℕ → Moment
 after_write now held faults = record now { held = held; write_faults = faults }
 
-abbrev pub after_commit : Moment → Kept → ℕ → Moment
-after_commit now seen number = record now { seen = seen; number = number }
+abbrev pub after_commit : Moment → Kept → List Cmd → ℕ → ℕ → Moment
+after_commit now seen waits number faults = record now { seen = seen; waits = waits; number = number; port_faults = faults }
 
 pub talk_reads : (t : Terms) (before now : Moment) (given left : Option (List ℕ)) (faults : ℕ) (turns : List Turn) (rest bytes text : List ℕ)
     → Talk t before now turns [] rest text → given ≡ append_known now.given bytes → now.left ≡ prepend_known bytes left
@@ -90,11 +91,11 @@ pub talk_state : (t : Terms) (before now : Moment) (turns : List Turn) (rest tex
 talk_state t before now turns rest text h =
     ap state_of (talk_seen t before now turns rest text h) ∙ state_more before.seen (added before turns)
 
-pub talk_enters : (t : Terms) (before now : Moment) (seen : Kept) (number : ℕ) (turns : List Turn) (name rest text : List ℕ) (reply : Reply)
+pub talk_enters : (t : Terms) (before now : Moment) (seen : Kept) (waits : List Cmd) (number faults : ℕ) (turns : List Turn) (name rest text : List ℕ) (reply : Reply)
     → Talk t before now turns [] (request_text t.token name ++ rest) text
     → (e : Enters t now.number now.seen seen name reply) → number ≡ now.number
-    → Talk t before (after_commit now seen number) (turns ++ e.turn ∷ []) [] rest text
-talk_enters t before now seen number turns name rest text reply h e same_number =
+    → Talk t before (after_commit now seen waits number faults) (turns ++ e.turn ∷ []) [] rest text
+talk_enters t before now seen waits number faults turns name rest text reply h e same_number =
     let kept = before.seen in
     let start = first before in
     let gains = added before turns in
@@ -141,6 +142,14 @@ replies_more t before now seen turns name rest text reply h e =
     ap (λ z. told z before.number e.turn) (sym (talk_state t before now turns rest text h))
     ∙ ap (λ n. told (state_of now.seen) n e.turn) (sym h.number)
     ∙ sym e.answer)
+
+-- what waits after one more call
+pub leaves_more : (a b c failed : List Cmd) → Leaves a [] b → Leaves b failed c → Leaves a failed c
+leaves_more a b c failed (inl e) (inl f) = inl (f ∙ e)
+leaves_more a b c failed (inr (inl e)) (inl f) = inr (inl (f ∙ e))
+leaves_more a b c failed (inr (inr e)) (inl f) = inr (inl (f ∙ e))
+leaves_more a b c failed h (inr (inl f)) = inr (inl f)
+leaves_more a b c failed h (inr (inr f)) = inr (inr f)
 
 -- a fault that rose later has risen since the start
 pub rose_since : (a b c : ℕ) → a ≤ b → Rose b c → Rose a c

@@ -2,7 +2,7 @@
 use Rattle.std.specs.Prelude.{ℕ, ◌≡◌, ◌<◌, List, [], ◌++◌, length, flat_map, All, Option, Some}
 use Rattle.fh_model.specs.FolderRequests.{IsName, IsCut, IsBad, request_text}
 use Rattle.session_http.specs.declared.conn.ConnEnd.{ConnEnd}
-use Rattle.session_http.specs.declared.conn.ConnEnd.TheVariants.{Ended, Cut, Bad, ReadFault, WriteFault, NoMemory, Spent}
+use Rattle.session_http.specs.declared.conn.ConnEnd.TheVariants.{Ended, Cut, Bad, ReadFault, WriteFault, DiskFault, NoMemory, Spent}
 
 -- the texts of requests for these names, joined
 abbrev pub spelling : List ℕ → List (List ℕ) → List ℕ
@@ -16,6 +16,7 @@ IsEnding Bad token tail = IsBad token tail
 IsEnding ReadFault token tail = ⊥
 IsEnding WriteFault token tail = ⊥
 IsEnding NoMemory token tail = ⊥
+IsEnding DiskFault token tail = ⊥
 IsEnding Spent token tail = ⊥
 
 -- what is left spells fewer requests than a connection may have, and then has this ending

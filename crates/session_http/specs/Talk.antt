@@ -6,14 +6,15 @@ use Rattle.fh_world.specs.declared.source.Source as source
 use Rattle.fh_world.specs.declared.sink.Sink as sink
 use Rattle.fh_model.specs.declared.commands.Cmd.{Cmd}
 use Rattle.fh_model.specs.declared.replies.Reply.{Reply}
-use Rattle.fh_model.specs.Connection.{Turn, told, texts, gained_in, gained}
+use Rattle.fh_model.specs.Connection.{Turn, cmd_of, told, texts, gained_in, gained}
 use Rattle.fh_model.specs.FolderRequests.{IsName, request_text, IsCut, IsBad}
 use Rattle.fh_model.specs.History.{Kept, state_of, state_after, with_more}
 use Rattle.fh_model.specs.ReplyText.{reply_text}
 use Rattle.fh_model.specs.State.{State}
-use Rattle.session_http.specs.declared.port.Port as port
+use Rattle.host_seat.specs.declared.port.Port as port
+use Rattle.host_seat.specs.Port.{Leaves}
 use Rattle.session_http.specs.declared.conn.ConnEnd.{ConnEnd}
-use Rattle.session_http.specs.declared.conn.ConnEnd.TheVariants.{Ended, Cut, Bad, ReadFault, WriteFault, NoMemory, Spent}
+use Rattle.session_http.specs.declared.conn.ConnEnd.TheVariants.{Ended, Cut, Bad, ReadFault, WriteFault, DiskFault, NoMemory, Spent}
 
 -- what holds for a connection from its start to its end: whether nobody else lets commands enter, the clock's second
 -- where it tells one, and the token of user 1
@@ -28,7 +29,9 @@ terms alone second token = record { alone = alone; second = second; token = toke
 -- what is known at a moment of the port, of the source and of the sink, where they tell it
 pub record Moment : Type 0 where
   pub seen : Kept
+  pub waits : List Cmd
   pub number : ℕ
+  pub port_faults : ℕ
   pub given : Option (List ℕ)
   pub left : Option (List ℕ)
   pub read_faults : ℕ
@@ -38,7 +41,9 @@ pub record Moment : Type 0 where
 abbrev pub moment : {P S K : Type 0} → port.Ghosts P → source.Ghosts S → sink.Ghosts K → P → S → K → Moment
 moment of_port of_source of_sink p s k = record {
   seen = of_port.seen p;
+  waits = of_port.waits p;
   number = of_port.number p;
+  port_faults = of_port.faults p;
   given = of_source.given s;
   left = of_source.left s;
   read_faults = of_source.faults s;
@@ -63,6 +68,17 @@ pub record Enters (t : Terms) (number : ℕ) (old new : Kept) (name : List ℕ) 
   pub is : IsTurn t turn
   pub answer : reply_text reply ≡ told (state_of old) number turn
   pub gains : new ≡ with_more old (gained_in (state_of old) number turn)
+
+-- A command for this name could not enter. Where the disk failed, its command may wait.
+abbrev pub FailsBy : ConnEnd → Terms → ℕ → List ℕ → ℕ → ℕ → List Cmd → List Cmd → Type 0
+FailsBy DiskFault t number name f0 f1 before now = Rose f0 f1 × (turn : Turn) × IsTurn t turn × (turn.asked ≡ name) × Leaves before (cmd_of number turn ∷ []) now
+FailsBy NoMemory t number name f0 f1 before now = Leaves before [] now
+FailsBy Ended t number name f0 f1 before now = ⊥
+FailsBy Cut t number name f0 f1 before now = ⊥
+FailsBy Bad t number name f0 f1 before now = ⊥
+FailsBy ReadFault t number name f0 f1 before now = ⊥
+FailsBy WriteFault t number name f0 f1 before now = ⊥
+FailsBy Spent t number name f0 f1 before now = ⊥
 
 -- the machine that the port had seen at the start
 abbrev pub first : Moment → State
@@ -96,14 +112,17 @@ IsPart text part = (n : ℕ) × (part ≡ take n text)
 
 -- Why a connection may end so. `answered` are the requests whose replies were written, `broken` is the one whose reply
 -- was not written whole, `part` what was written of it, and `rest` what was read behind them.
-abbrev pub EndsBy : ConnEnd → List ℕ → Moment → Moment → List Turn → List Turn → List ℕ → List ℕ → Type 0
-EndsBy Ended token before now answered broken rest part = (broken ≡ []) × (part ≡ []) × (rest ≡ []) × IsAtEnd now.left
-EndsBy Cut token before now answered broken rest part = (broken ≡ []) × (part ≡ []) × IsCut token rest × IsAtEnd now.left
-EndsBy Bad token before now answered broken rest part = (broken ≡ []) × (part ≡ []) × IsBad token rest
-EndsBy ReadFault token before now answered broken rest part = (broken ≡ []) × (part ≡ []) × Rose before.read_faults now.read_faults
-EndsBy WriteFault token before now answered broken rest part = IsPart (replies_behind before answered broken) part × Rose before.write_faults now.write_faults
-EndsBy NoMemory token before now answered broken rest part = part ≡ []
-EndsBy Spent token before now answered broken rest part = (length answered ≡ 1000000) × (broken ≡ []) × (part ≡ [])
+abbrev pub EndsBy : ConnEnd → Terms → Moment → Moment → List Turn → List Turn → List ℕ → List ℕ → Type 0
+EndsBy Ended t before now answered broken rest part = (broken ≡ []) × (part ≡ []) × (rest ≡ []) × IsAtEnd now.left
+EndsBy Cut t before now answered broken rest part = (broken ≡ []) × (part ≡ []) × IsCut t.token rest × IsAtEnd now.left
+EndsBy Bad t before now answered broken rest part = (broken ≡ []) × (part ≡ []) × IsBad t.token rest
+EndsBy ReadFault t before now answered broken rest part = (broken ≡ []) × (part ≡ []) × Rose before.read_faults now.read_faults
+EndsBy WriteFault t before now answered broken rest part = IsPart (replies_behind before answered broken) part × Rose before.write_faults now.write_faults
+EndsBy DiskFault t before now answered broken rest part = (broken ≡ []) × (part ≡ []) × Rose before.port_faults now.port_faults
+    × (name after : List ℕ) × (rest ≡ request_text t.token name ++ after)
+    × (turn : Turn) × IsTurn t turn × (turn.asked ≡ name) × Leaves before.waits (cmd_of before.number turn ∷ []) now.waits
+EndsBy NoMemory t before now answered broken rest part = part ≡ []
+EndsBy Spent t before now answered broken rest part = (length answered ≡ 1000000) × (broken ≡ []) × (part ≡ [])
 
 -- all that a connection did
 pub record Served (t : Terms) (before now : Moment) (end : ConnEnd) : Type 0 where
@@ -116,9 +135,11 @@ pub record Served (t : Terms) (before now : Moment) (end : ConnEnd) : Type 0 whe
   pub talk : Talk t before now (answered ++ broken) behind rest (replies before answered ++ part)
   pub one : length broken ≤ 1
   pub few : end ≢ Spent → length answered < 1000000
-  pub still : end ≢ NoMemory → behind ≡ []
+  pub still : end ≢ NoMemory → end ≢ DiskFault → behind ≡ []
   pub mine : IsTrue t.alone → behind ≡ []
-  pub ends : EndsBy end t.token before now answered broken rest part
+  -- no command was left waiting but that of the request at which the disk failed
+  pub waits : end ≢ DiskFault → Leaves before.waits [] now.waits
+  pub ends : EndsBy end t before now answered broken rest part
 
 -- how reading the next request may end, where `rest` is all that was read and not answered
 abbrev pub StopsBy : ConnEnd → List ℕ → Option (List ℕ) → ℕ → ℕ → List ℕ → Type 0
@@ -128,6 +149,7 @@ StopsBy Bad token left r0 r1 rest = IsBad token rest
 StopsBy ReadFault token left r0 r1 rest = Rose r0 r1
 StopsBy WriteFault token left r0 r1 rest = ⊥
 StopsBy NoMemory token left r0 r1 rest = Unit {0}
+StopsBy DiskFault token left r0 r1 rest = ⊥
 StopsBy Spent token left r0 r1 rest = ⊥
 
 -- how a reply may stay unwritten
@@ -138,6 +160,7 @@ TellsBy Ended text part w0 w1 = ⊥
 TellsBy Cut text part w0 w1 = ⊥
 TellsBy Bad text part w0 w1 = ⊥
 TellsBy ReadFault text part w0 w1 = ⊥
+TellsBy DiskFault text part w0 w1 = ⊥
 TellsBy Spent text part w0 w1 = ⊥
 
 -- how a read may fail
@@ -148,6 +171,7 @@ FillsBy Ended r0 r1 = ⊥
 FillsBy Cut r0 r1 = ⊥
 FillsBy Bad r0 r1 = ⊥
 FillsBy WriteFault r0 r1 = ⊥
+FillsBy DiskFault r0 r1 = ⊥
 FillsBy Spent r0 r1 = ⊥
 
 -- how the input ends, where it ends with these bytes
@@ -158,4 +182,5 @@ EndsAt Bad token rest = IsBad token rest
 EndsAt ReadFault token rest = ⊥
 EndsAt WriteFault token rest = ⊥
 EndsAt NoMemory token rest = Unit {0}
+EndsAt DiskFault token rest = ⊥
 EndsAt Spent token rest = ⊥

@@ -21,6 +21,9 @@ pub enum ConnEnd {
     /// The sink failed.
     WriteFault,
 
+    /// The disk failed as a command was to enter.
+    DiskFault,
+
     /// Memory was wanting.
     NoMemory,
 

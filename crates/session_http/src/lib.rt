@@ -8,14 +8,10 @@
 
 mod conn;
 mod cut;
-mod direct;
-mod port;
 mod reading;
 mod replies;
 mod request;
 mod serving;
 
 pub use conn::{Conn, ConnEnd};
-pub use direct::Direct;
-pub use port::{CommitFault, Port};
 pub use serving::serve_conn;

@@ -1,20 +1,20 @@
 //! Serves the requests of a connection in order.
-ghost use Rattle.std.specs.Prelude.{◌≡◌, ◌≤◌, ◌∷◌, List, ℕ, length, IfOk, OnOk, OnErr, IfErr};
+ghost use Rattle.std.specs.Prelude.{◌≡◌, ◌≤◌, ◌∷◌, [], List, ℕ, length, IfOk, OnOk, OnErr, IfErr};
 ghost use Rattle.std.specs.Char.{is_ascii_alphanumeric};
 ghost use Rattle.std.specs.List.{AllPass};
 ghost use Rattle.fh_world.specs.Bytes.{Holds};
 ghost use Rattle.fh_model.specs.FolderRequests.{IsName};
 ghost use Rattle.fh_model.specs.ReplyText.{reply_text};
 ghost use Rattle.session_http.specs.Conn.{source_of, sink_of, IsNew};
-ghost use Rattle.session_http.specs.Port.{OthersEnter};
-ghost use Rattle.session_http.specs.Talk.{Enters, Served, TellsBy, moment, terms};
+ghost use Rattle.host_seat.specs.Port.{Leaves, OthersEnter};
+ghost use Rattle.session_http.specs.Talk.{Enters, FailsBy, Served, TellsBy, moment, terms};
 
 use crate::conn::{Conn, ConnEnd};
-use crate::port::Port;
 use crate::reading::next_request;
 use crate::replies::reply;
 use fh_model::{Act, NoMemory, REQUESTS_MAX, Reply, Text};
 use fh_world::{Clock, Failed, Sink, Source};
+use host_seat::{CommitFault, Port};
 use std::alloc::Global;
 
 /// Lets the command of a request enter.
@@ -23,17 +23,22 @@ fn enter<P: Port, C: Clock>(
     port: &mut P,
     clock: &mut C,
     name: &[u8],
-) -> Result<Reply, NoMemory>
+) -> Result<Reply, ConnEnd>
     requires { IsName name.now }
     ensures ok { (token : List ℕ) → IfOk result (λ reply. Enters (terms P.alone (C.second clock.old) token) (P.number port.old) (P.seen port.old) (P.seen port.new) name.now reply) }
-    ensures err { OnErr result (OthersEnter P.alone (P.seen port.old) (P.seen port.new)) }
+    ensures settled { OnOk result (Leaves (P.waits port.old) [] (P.waits port.new)) }
+    ensures err { (token : List ℕ) → IfErr result (λ end. FailsBy end (terms P.alone (C.second clock.old) token) (P.number port.old) name.now (P.faults port.old) (P.faults port.new) (P.waits port.old) (P.waits port.new)) }
+    ensures others { OnErr result (OthersEnter P.alone (P.seen port.old) (P.seen port.new)) }
     ensures number { P.number port.new ≡ P.number port.old }
     ensures later { P.faults port.old ≤ P.faults port.new }
     ensures went { P.went port.old port.new }
     ensures second { C.second clock.new ≡ C.second clock.old }
 {
     let at = clock.seconds();
-    let path = path_of(alloc, name)?;
+    let path = match path_of(alloc, name) {
+        Ok(path) => path,
+        Err(NoMemory) => return Err(ConnEnd::NoMemory),
+    };
     let act = Act::MakeFolder {
         user: 1,
         path,
@@ -41,7 +46,8 @@ fn enter<P: Port, C: Clock>(
     };
     match port.commit(at, act, &[]) {
         Ok(reply) => Ok(reply),
-        Err(_) => Err(NoMemory),
+        Err(CommitFault::Disk) => Err(ConnEnd::DiskFault),
+        Err(CommitFault::NoMemory) => Err(ConnEnd::NoMemory),
     }
 }
 
@@ -98,7 +104,7 @@ pub fn serve_conn<P: Port, S: Source, K: Sink, C: Clock>(
         };
         let answer = match enter(alloc, port, clock, &name) {
             Ok(answer) => answer,
-            Err(NoMemory) => return ConnEnd::NoMemory,
+            Err(end) => return end,
         };
         match tell(alloc, &mut conn.sink, &answer) {
             Ok(()) => {}

@@ -1,4 +1,4 @@
-use Rattle.std.proofs.Common.{◌≡◌, ◌<◌, ◌≤◌, ℕ, List, [], length, refl, sym, ◌∙◌, arith, rules}
+use Rattle.std.proofs.Common.{◌≡◌, ◌<◌, ◌≤◌, ℕ, List, [], length, refl, sym, ◌∙◌, arith, rules, inl}
 use Rattle.session_http.specs.Talk.{terms, moment}
 use Rattle.session_http.proofs.Serves.{serve_stops, serve_refused, serve_breaks, so_far_more, serve_spent, talk_next}
 use Rattle.session_http.proofs.Talks.{after_read, talk_starts}
@@ -10,7 +10,7 @@ requests-init g c =
     let t = terms P.alone (g.C.Clock.second c.args.clock.now) c.args.admin.now in
     let starts = talk_starts t (moment P S K c.args.port.now c.args.conn.now.source c.args.conn.now.sink) in
     record {
-      so_far = record { turns = []; counted = refl; talk = rw c.requires.unread starts };
+      so_far = record { turns = []; counted = refl; waits = inl refl; talk = rw c.requires.unread starts };
       port_later = omega arith;
       went = g.met.P.Port.nothing c.args.port.now;
       source_place = refl;
@@ -29,7 +29,7 @@ returns-in-Err-clause-served g c =
     let so = c.requests.invariant.so_far in
     let stop = rw c.as_bytes.ensures at c.in-Err.ensures.err in
     serve_stops c.in-Err.end t before now _ _ _ so.turns c.requests.conn.unread.items stop.0
-    so.talk (omega (arith, so.counted, c.requests-test.true)) c.requests.invariant.source_later stop.1.gave stop.1.took stop.2
+    so.talk (omega (arith, so.counted, c.requests-test.true)) so.waits c.requests.invariant.source_later stop.1.gave stop.1.took stop.2
 
 pub returns-in-Err-enter-clause-served : goal.returns-in-Err-enter-clause-served
 returns-in-Err-enter-clause-served g c =
@@ -41,7 +41,9 @@ returns-in-Err-enter-clause-served g c =
     let so = c.requests.invariant.so_far in
     let next = rw c.as_bytes.ensures at c.in-Ok.ensures.ok in
     let talk = talk_next t before now _ _ _ so.turns c.requests.conn.unread.items next.1 c.in-Ok.name.items c.next_request.new.unread.items _ so.talk next.2.gave next.2.took next.3 in
-    serve_refused t before read _ _ so.turns _ talk (omega (arith, so.counted, c.requests-test.true)) c.in-Err-enter.ensures.err c.in-Err-enter.ensures.number
+    let fails = rw (c.deref.ensures.value, c.requests.invariant.second) at (c.in-Err-enter.ensures.err c.args.admin.now) in
+    serve_refused c.in-Err-enter.end t before read _ _ _ _ so.turns c.in-Ok.name.items c.next_request.new.unread.items talk (omega (arith, so.counted, c.requests-test.true))
+    so.waits c.requests.invariant.port_later c.in-Err-enter.ensures.others c.in-Err-enter.ensures.number fails
 
 pub returns-in-Err-tell-clause-served : goal.returns-in-Err-tell-clause-served
 returns-in-Err-tell-clause-served g c =
@@ -55,8 +57,8 @@ returns-in-Err-tell-clause-served g c =
     let talk = talk_next t before now _ _ _ so.turns c.requests.conn.unread.items next.1 c.in-Ok.name.items c.next_request.new.unread.items _ so.talk next.2.gave next.2.took next.3 in
     let entered = rw (c.deref.ensures.value, c.requests.invariant.second) at (c.in-Ok-enter.ensures.ok c.args.admin.now) in
     let told = c.in-Err-tell.ensures.err in
-    serve_breaks c.in-Err-tell.end t before read _ _ _ _ so.turns c.in-Ok.name.items c.next_request.new.unread.items told.0 c.in-Ok-enter.answer
-    talk (omega (arith, so.counted, c.requests-test.true)) entered c.in-Ok-enter.ensures.number c.requests.invariant.sink_later told.1 told.2
+    serve_breaks c.in-Err-tell.end t before read _ _ _ _ _ _ so.turns c.in-Ok.name.items c.next_request.new.unread.items told.0 c.in-Ok-enter.answer
+    talk (omega (arith, so.counted, c.requests-test.true)) so.waits c.in-Ok-enter.ensures.settled entered c.in-Ok-enter.ensures.number c.requests.invariant.sink_later told.1 told.2
 
 pub requests-preserved : goal.requests-preserved
 requests-preserved g c =
@@ -70,8 +72,8 @@ requests-preserved g c =
     let talk = talk_next t before now _ _ _ so.turns c.requests.conn.unread.items next.1 c.in-Ok.name.items c.next_request.new.unread.items _ so.talk next.2.gave next.2.took next.3 in
     let entered = rw (c.deref.ensures.value, c.requests.invariant.second) at (c.in-Ok-enter.ensures.ok c.args.admin.now) in
     record {
-      so_far = so_far_more t before read _ _ _ _ so.turns c.in-Ok.name.items c.next_request.new.unread.items c.in-Ok-enter.answer c.requests.counter so.counted
-          talk entered c.in-Ok-enter.ensures.number c.in-Ok-tell.ensures.ok;
+      so_far = so_far_more t before read _ _ _ _ _ _ so.turns c.in-Ok.name.items c.next_request.new.unread.items c.in-Ok-enter.answer c.requests.counter so.counted
+          talk so.waits c.in-Ok-enter.ensures.settled entered c.in-Ok-enter.ensures.number c.in-Ok-tell.ensures.ok;
       port_later = omega (arith, c.requests.invariant.port_later, c.in-Ok-enter.ensures.later);
       went = g.met.P.Port.on c.args.port.now c.requests.port c.enter.new.port c.requests.invariant.went c.in-Ok-enter.ensures.went;
       source_place = c.in-Ok.ensures.place ∙ c.requests.invariant.source_place;

@@ -1,6 +1,6 @@
 use Rattle.std.proofs.Common.{◌∷◌, [], refl, arith}
 use Rattle.std.proofs.lemmas.Result.{err_from_is_err_and}
-use Rattle.gate_journal.proofs.StateLemmas.{settled_stays, waits_now, framed_staged, framed_end, behind_run, slot_run, pending_case}
+use Rattle.gate_journal.proofs.StateLemmas.{settled_stays, waits_now, framed_staged, framed_end, behind_run, before_run, slot_run, pending_case}
 use Rattle.gate_journal.proofs.journal.Journal.append.Goals as goal
 
 pub returns-in_err-write_through-clause-fault : goal.returns-in_err-write_through-clause-fault
@@ -12,6 +12,12 @@ pub returns-in_err-write_through-clause-any_moment : goal.returns-in_err-write_t
 returns-in_err-write_through-clause-any_moment g c told bodies is =
     let d = g.D.Disk in
     behind_run d.moment d.left_since d.may_leave _ _ c.args.self.now bodies (c.args.framed.now ∷ []) _ _ is (c.write_through.ensures.any_moment told)
+
+pub returns-in_err-write_through-clause-unopened : goal.returns-in_err-write_through-clause-unopened
+returns-in_err-write_through-clause-unopened g c =
+    let d = g.D.Disk in
+    let p = err_from_is_err_and c.from_residual.result c.from_residual.ensures.1 in
+    rw p.1 (λ idle told bodies is. before_run d.moment d.left_since d.may_leave _ _ c.args.self.now bodies (c.args.framed.now ∷ []) _ _ is (c.write_through.ensures.any_moment told))
 
 pub finish-requires-clause-waiting : goal.finish-requires-clause-waiting
 finish-requires-clause-waiting g c told =

@@ -1,5 +1,5 @@
 -- What a commit through a port means.
-use Rattle.std.specs.Prelude.{◌≡◌, [], List, Bool, IsTrue}
+use Rattle.std.specs.Prelude.{◌≡◌, ◌⊎◌, [], List, Bool, IsTrue}
 use Rattle.fh_model.specs.declared.commands.Cmd.{Cmd}
 use Rattle.fh_model.specs.declared.replies.Reply.{Reply}
 use Rattle.fh_model.specs.History.{Kept, with_more, next_of, reply_of}
@@ -16,3 +16,7 @@ pub record OthersEnter (alone : Bool) (old new : Kept) : Type 0 where
   pub others : List Cmd
   pub grown : new ≡ with_more old others
   pub mine : IsTrue alone → others ≡ []
+
+-- What waits for the disk is what waited before, or nothing, or what failed just now.
+abbrev pub Leaves : List Cmd → List Cmd → List Cmd → Type 0
+Leaves before failed now = (now ≡ before) ⊎ ((now ≡ []) ⊎ (now ≡ failed))

@@ -1,0 +1,73 @@
+ghost use Rattle.std.specs.Prelude.{◌≡◌, [], List, Option};
+ghost use Rattle.fh_world.specs.Causes.{Rose};
+
+use crate::{CommitFault, Port};
+use fh_model::{Act, Cmd, NoMemory, Reply};
+use fh_world::Disk;
+use store_core::Store;
+
+/// The seat's number of a port that nobody shares.
+const SEAT: u64 = 1;
+
+/// A store that serves one connection at a time, and which it owns.
+#[derive(Drop)]
+pub struct Direct<D> {
+    store: Store<D>,
+}
+
+impl<D: Disk> Direct<D> {
+    ghost use Rattle.host_seat.specs.Direct.{store_of};
+
+    pub fn new(store: Store<D>) -> Direct<D>
+        ensures { store_of result ≡ store }
+    {
+        Direct { store }
+    }
+
+    /// Gives the store back.
+    pub fn into_store(self) -> Store<D>
+        ensures { result ≡ store_of self }
+    {
+        let Direct { store } = self;
+        store
+    }
+}
+
+impl<D: Disk> Port for Direct<D> {
+    ghost use Rattle.std.specs.Prelude.{true};
+    ghost use Rattle.host_seat.specs.Direct.{Ran, waiting_in};
+    ghost use Rattle.host_seat.proofs.RunLaws.{ran_nothing, ran_on};
+
+    ghost went = { λ old new. Ran D.Disk old.store new.store };
+
+    ghost seen = { λ direct. direct.store.image };
+
+    ghost waits = { λ direct. waiting_in direct.store.waiting };
+
+    ghost number = { λ _. 1 };
+
+    ghost faults = { λ direct. D.faults direct.store.disk };
+
+    ghost alone = { true };
+
+    ghost nothing = { λ direct. ran_nothing _ D.only_now direct.store };
+
+    ghost on = { λ a b c first second. ran_on _ a.store b.store c.store first second };
+
+    /// Where a command waits for the disk nothing more is let in: the answer is want of memory, the one that is free.
+    fn commit(&mut self, at: u64, act: Act, bytes: &[u8]) -> Result<Reply, CommitFault> {
+        if self.store.waits() {
+            return Err(CommitFault::NoMemory);
+        }
+        let cmd = Cmd {
+            seat: SEAT,
+            at,
+            act,
+        };
+        match self.store.commit(cmd, bytes) {
+            Ok(reply) => Ok(reply),
+            Err(store_core::CommitFault::Disk) => Err(CommitFault::Disk),
+            Err(store_core::CommitFault::NoMemory) => Err(CommitFault::NoMemory),
+        }
+    }
+}

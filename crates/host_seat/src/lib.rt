@@ -1,0 +1,12 @@
+//! The seats at the machine: the way by which a connection lets its commands enter.
+//!
+//! A `Port` tells what it has seen, a state and the commands that entered since, and each of its calls has its point
+//! there. What a port may have done besides, such as what a crash may leave of its disk, is its own matter and is told
+//! by its relation `went`. Nothing here speaks of requests or replies.
+#![tactic(auto)]
+
+mod direct;
+mod port;
+
+pub use direct::Direct;
+pub use port::{CommitFault, Port};

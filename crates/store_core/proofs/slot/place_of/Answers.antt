@@ -1,0 +1,8 @@
+use Rattle.std.proofs.Common.{rules, ◌≡◌, ◌≤◌, ◌∙◌, ap, arith, length, take}
+use Rattle.gate_journal.specs.Slot.{records}
+use Rattle.store_core.specs.Bodies.{place_of}
+use Rattle.store_core.proofs.PlaceLemmas.{front_within, place_end}
+use Rattle.store_core.proofs.slot.place_of.Goals as goal
+
+pub returns-then-index-records : goal.returns-then-index-records
+returns-then-index-records c = λ fits. c.length_of.ensures (omega (arith, fits, front_within c.args.records.now c.args.index))

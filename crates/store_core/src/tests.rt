@@ -1,0 +1,348 @@
+ghost use Rattle.std.specs.Prelude.{◌≡◌, None, OnSome};
+
+use crate::{Store, StoreFault};
+use cmd_codec::{encode, has_spelling};
+use fh_model::{Act, Cmd, LAST_SECOND, Members, NoMemory, Reply, Row, SPENT_AT, Text};
+use fh_world::{Disk, FileDisk, FileNo, FuseDisk, MemDisk};
+use gate_journal::{frame, lay};
+use state_rows::{encode_row, has_spelling as row_has_spelling};
+use std::alloc::Global;
+use std::test::Fail;
+
+/// The second of the example in the formats.
+const AT: u64 = 1_700_000_000;
+
+fn folder(alloc: Global, path: &str) -> Result<Cmd, NoMemory> {
+    let path = Text::new(String::from_str(alloc, path)?);
+    Ok(Cmd {
+        seat: 1,
+        at: AT,
+        act: Act::MakeFolder {
+            user: 1,
+            path,
+            rename: false,
+        },
+    })
+}
+
+/// Makes a folder, and answers whether it was made. None stands for a fault.
+fn make<D: Disk>(alloc: Global, store: &mut Store<D>, path: &str) -> Option<bool>
+    requires { store.old.waiting ≡ None }
+    ensures { OnSome result (store.new.waiting ≡ None) }
+{
+    let cmd = folder(alloc, path).ok()?;
+    if !has_spelling(&cmd) {
+        return None;
+    }
+    match store.commit(cmd, b"") {
+        Ok(Reply::Entry(_)) => Some(true),
+        Ok(Reply::Refused(_)) => Some(false),
+        Err(_) => None,
+    }
+}
+
+/// Whether a folder could be made at the path.
+fn is_free<D: Disk>(alloc: Global, store: &Store<D>, path: &str) -> Result<bool, NoMemory> {
+    match store.image().settle(&folder(alloc, path)?)? {
+        Reply::Entry(_) => Ok(true),
+        Reply::Refused(_) => Ok(false),
+    }
+}
+
+/// Makes `/Docs`, `/docs`, which is refused, and `/e`. Answers how many folders were acknowledged, and the disk.
+fn run(alloc: Global, disk: FuseDisk<MemDisk>) -> (u64, FuseDisk<MemDisk>) {
+    let mut store = match Store::open(alloc, disk) {
+        Ok(store) => store,
+        Err((disk, _)) => return (0, disk),
+    };
+    let mut made = 0;
+    for path in ["/Docs", "/docs", "/e"] {
+        if store.waits() {
+            break;
+        }
+        match make(alloc, &mut store, path) {
+            Some(true) => made += 1,
+            Some(false) => {}
+            None => break,
+        }
+    }
+    (made, store.into_disk())
+}
+
+/// How many of the folders stand in a store, where those that do are the first of them.
+fn standing<D: Disk>(alloc: Global, store: &Store<D>) -> Result<Option<u64>, NoMemory> {
+    let docs = !is_free(alloc, store, "/docs")?;
+    let e = !is_free(alloc, store, "/E")?;
+    Ok(match (docs, e) {
+        (false, false) => Some(0),
+        (true, false) => Some(1),
+        (true, true) => Some(2),
+        (false, true) => None,
+    })
+}
+
+#[test]
+fn a_stop_at_any_call_leaves_what_was_acknowledged(rt: HostRuntime) -> Result<(), Fail> {
+    let alloc = rt.alloc();
+    for calls in 0..25 {
+        let (made, fuse) = run(alloc, FuseDisk::new(MemDisk::new(alloc)?, calls));
+        let disk = fuse.into_inner();
+        for choice in 0..64 {
+            let store = Store::open(alloc, disk.crashed(choice)?)
+                .ok()
+                .ok_or("the image opens")?;
+            let found = standing(alloc, &store)?;
+            assert!(rt;
+                found == Some(made) || found == Some(made + 1),
+                "after {calls} calls, choice {choice}"
+            );
+            assert!(rt; calls < 23 || found == Some(2));
+        }
+    }
+    Ok(())
+}
+
+#[test]
+fn a_store_is_these_files(rt: HostRuntime) -> Result<(), Fail> {
+    let alloc = rt.alloc();
+    let mut store = Store::open(alloc, MemDisk::new(alloc)?)
+        .ok()
+        .ok_or("the store opens")?;
+    let made = make(alloc, &mut store, "/Docs").ok_or("no fault")?;
+    assert!(rt; made && !store.waits());
+    let disk = store.into_disk();
+    assert!(rt; disk.bytes(FileNo::Head) == b"\xa5filehost store 1\x01".as_slice());
+    assert!(rt; disk.bytes(FileNo::SlotA).len() == 169);
+    assert!(rt;
+        disk.bytes(FileNo::SlotA).ends_with(
+            b"\xa5\0\0\0\0\0\0\0\x23\x01\0\0\0\0\0\0\0\x01\0\0\0\0\x65\x53\xf1\0\0\0\0\0\0\0\0\x01\0\0\0\x05/Docs\0\0"
+        )
+    );
+    assert!(rt; disk.bytes(FileNo::SlotB).is_empty() && disk.bytes(FileNo::Blocks).is_empty());
+    Ok(())
+}
+
+#[test]
+fn a_store_in_a_folder_is_opened_again(rt: HostRuntime) -> Result<(), Fail> {
+    let alloc = rt.alloc();
+    for made in [true, false] {
+        let mut store = Store::open(alloc, FileDisk::open(&rt, "."))
+            .ok()
+            .ok_or("the store opens")?;
+        let now = make(alloc, &mut store, "/Docs").ok_or("no fault")?;
+        assert!(rt; now == made);
+    }
+    Ok(())
+}
+
+fn counters(id: u64, user: u64, moment: u64) -> Row {
+    Row::Counters {
+        rev: 1,
+        id,
+        session: 1,
+        user,
+        namespace: 2,
+        moment,
+    }
+}
+
+fn user(number: u64, home: u64) -> Row {
+    Row::User {
+        number,
+        home,
+        token: None,
+    }
+}
+
+fn space(alloc: Global, length: u64) -> Row {
+    Row::Namespace {
+        number: 1,
+        shared: false,
+        floor: 0,
+        length,
+        members: Members::empty(alloc),
+    }
+}
+
+fn row_body(alloc: Global, row: Row) -> Result<Vec<u8>, Fail> {
+    if !row_has_spelling(&row) {
+        return Ok(Vec::new(alloc));
+    }
+    let body = encode_row(alloc, &row)?;
+    Ok(body)
+}
+
+fn cmd_body(alloc: Global) -> Result<Vec<u8>, Fail> {
+    let cmd = folder(alloc, "/a")?;
+    if !has_spelling(&cmd) {
+        return Ok(Vec::new(alloc));
+    }
+    let body = encode(alloc, &cmd)?;
+    Ok(body)
+}
+
+/// A disk whose slot A has records of these bodies.
+fn disk_of(alloc: Global, bodies: &[Vec<u8>]) -> Result<MemDisk, Fail> {
+    let mut records = Vec::new(alloc);
+    for body in bodies {
+        records.push(frame(alloc, body)?)?;
+    }
+    let mut disk = MemDisk::new(alloc)?;
+    lay(alloc, &mut disk, FileNo::SlotA, &records)?;
+    let head = b"\xa5filehost store 1\x01";
+    let made = MemDisk::with(alloc, head, disk.bytes(FileNo::SlotA), b"", b"")?;
+    Ok(made)
+}
+
+/// Why the disk's store isn't opened, and whether its files stayed.
+fn refusal(alloc: Global, disk: MemDisk) -> Result<(Option<StoreFault>, bool), Fail> {
+    let head = disk.bytes(FileNo::Head).to_vec(alloc)?;
+    let slot = disk.bytes(FileNo::SlotA).to_vec(alloc)?;
+    match Store::open(alloc, disk) {
+        Ok(_) => Ok((None, true)),
+        Err((disk, fault)) => {
+            let stayed = disk.bytes(FileNo::Head) == head.as_slice()
+                && disk.bytes(FileNo::SlotA) == slot.as_slice();
+            Ok((Some(fault), stayed))
+        }
+    }
+}
+
+fn first(alloc: Global) -> Result<Vec<u8>, Fail> {
+    row_body(alloc, counters(1, 2, 0))
+}
+
+fn second(alloc: Global) -> Result<Vec<u8>, Fail> {
+    row_body(alloc, user(1, 1))
+}
+
+fn third(alloc: Global) -> Result<Vec<u8>, Fail> {
+    row_body(alloc, space(alloc, 0))
+}
+
+#[test]
+fn records_that_break_a_rule_have_their_places(rt: HostRuntime) -> Result<(), Fail> {
+    let alloc = rt.alloc();
+    for (bodies, place) in [
+        (
+            vec![in alloc; first(alloc)?, second(alloc)?, third(alloc)?]?,
+            None,
+        ),
+        (
+            vec![in alloc;
+                first(alloc)?,
+                second(alloc)?,
+                third(alloc)?,
+                cmd_body(alloc)?,
+            ]?,
+            None,
+        ),
+        (
+            vec![in alloc; second(alloc)?, first(alloc)?, third(alloc)?]?,
+            Some(27),
+        ),
+        (vec![in alloc; second(alloc)?, third(alloc)?]?, Some(66)),
+        (vec![in alloc; first(alloc)?, second(alloc)?]?, Some(58)),
+        (
+            vec![in alloc; first(alloc)?, row_body(alloc, user(1, 7))?, third(alloc)?]?,
+            Some(58),
+        ),
+        (
+            vec![in alloc;
+                row_body(alloc, counters(1, 1, 0))?,
+                second(alloc)?,
+                third(alloc)?,
+            ]?,
+            Some(58),
+        ),
+        (
+            vec![in alloc;
+                first(alloc)?,
+                second(alloc)?,
+                row_body(alloc, space(alloc, 1))?,
+            ]?,
+            Some(85),
+        ),
+        (
+            vec![in alloc;
+                first(alloc)?,
+                second(alloc)?,
+                third(alloc)?,
+                cmd_body(alloc)?,
+                second(alloc)?,
+            ]?,
+            Some(165),
+        ),
+        (
+            vec![in alloc; second(alloc)?, first(alloc)?, b"x".to_vec(alloc)?]?,
+            Some(85),
+        ),
+        (
+            vec![in alloc;
+                row_body(alloc, counters(1, 2, LAST_SECOND))?,
+                second(alloc)?,
+                third(alloc)?,
+            ]?,
+            None,
+        ),
+        (
+            vec![in alloc;
+                row_body(alloc, counters(1, 2, LAST_SECOND + 1))?,
+                second(alloc)?,
+                third(alloc)?,
+            ]?,
+            Some(0),
+        ),
+    ] {
+        let (found, stayed) = refusal(alloc, disk_of(alloc, &bodies)?)?;
+        let wanted = match place {
+            None => None,
+            Some(place) => Some(StoreFault::Damaged { place }),
+        };
+        assert!(rt; stayed && found == wanted);
+    }
+    Ok(())
+}
+
+#[test]
+fn heads_have_their_answers(rt: HostRuntime) -> Result<(), Fail> {
+    let alloc = rt.alloc();
+    let not = |place| Some(StoreFault::NotAStore { place });
+    for (head, answer) in [
+        (b"".as_slice(), None),
+        (b"\xa5filehost", None),
+        (b"\0filehost store 2\x01", None),
+        (b"\xa5filehost store 2\x01", not(16)),
+        (b"\xa5Filehost store 1\x01", not(1)),
+        (b"\xa5filehost store 1\x01x", not(18)),
+        (
+            b"\xa5filehost store 1\x01",
+            Some(StoreFault::Damaged { place: 0 }),
+        ),
+        (
+            b"\xa5filehost store 1\x02",
+            Some(StoreFault::Damaged { place: 0 }),
+        ),
+    ] {
+        let (found, stayed) = refusal(alloc, MemDisk::with(alloc, head, b"", b"", b"")?)?;
+        assert!(rt; stayed && found == answer, "of {} bytes", head.len());
+    }
+    Ok(())
+}
+
+#[test]
+fn a_spent_counter_refuses_and_writes_nothing(rt: HostRuntime) -> Result<(), Fail> {
+    let alloc = rt.alloc();
+    let bodies = vec![in alloc;
+        row_body(alloc, counters(SPENT_AT, 2, 0))?,
+        row_body(alloc, user(1, 1))?,
+        row_body(alloc, space(alloc, 0))?,
+    ]?;
+    let mut store = Store::open(alloc, disk_of(alloc, &bodies)?)
+        .ok()
+        .ok_or("the store opens")?;
+    let made = make(alloc, &mut store, "/Docs").ok_or("no fault")?;
+    assert!(rt; !made);
+    assert!(rt; store.into_disk().bytes(FileNo::SlotA).len() == 125);
+    Ok(())
+}

@@ -1,0 +1,100 @@
+#!/usr/bin/env python3
+"""Kills `filehost pipe` in the middle of a stream of requests, again and again, over one store.
+
+After each kill the program is started again on the same folder, and every folder that was answered 200 before must
+be there: making it once more must be refused. Needs the program, as `rt ci` leaves it. Outside the gate.
+
+Usage: tests/kill.py [ROUNDS]       (default: 100)
+"""
+import pathlib
+import random
+import subprocess
+import sys
+import tempfile
+import threading
+import time
+
+ROOT = pathlib.Path(__file__).resolve().parent.parent
+PROGRAM = ROOT / "crates" / "filehost" / "out" / "filehost"
+TOKEN = "rootroot"
+MOST_SECONDS = 0.05  # from the first request of a round to its kill
+
+
+def request(name):
+    body = '{"path":"/%s"}' % name
+    head = "POST /2/files/create_folder_v2 HTTP/1.1\r\nAuthorization: Bearer %s\r\nContent-Length: %d\r\n\r\n"
+    return (head % (TOKEN, len(body)) + body).encode()
+
+
+def start(store):
+    words = [PROGRAM, "pipe", "--store", store, "--admin", TOKEN]
+    return subprocess.Popen(words, stdin=subprocess.PIPE, stdout=subprocess.PIPE, stderr=subprocess.PIPE)
+
+
+def statuses(output):
+    """The status of each whole reply at the front of the output."""
+    found = []
+    while True:
+        end = output.find(b"\r\n\r\n")
+        if end < 0:
+            return found
+        head, rest = output[:end], output[end + 4 :]
+        length = int(head.split(b"Content-Length: ")[1].split(b"\r\n")[0])
+        if len(rest) < length:
+            return found
+        found.append(int(head.split(b" ")[1]))
+        output = rest[length:]
+
+
+def feed(program, names):
+    """Sends the requests until the program is gone."""
+    try:
+        for name in names:
+            program.stdin.write(request(name))
+            program.stdin.flush()
+        program.stdin.close()
+    except OSError:
+        pass
+
+
+def killed_round(store, number):
+    """Runs until a random moment, and answers the names that were acknowledged."""
+    names = ["r%dn%d" % (number, i) for i in range(2000)]
+    program = start(store)
+    sender = threading.Thread(target=feed, args=(program, names))
+    sender.start()
+    time.sleep(random.uniform(0, MOST_SECONDS))
+    program.kill()
+    output = program.stdout.read()
+    program.wait()
+    sender.join()
+    return [name for name, status in zip(names, statuses(output)) if status == 200]
+
+
+def missing(store, names):
+    """Which of the names can be made, so were not there."""
+    program = start(store)
+    output, errors = program.communicate(b"".join(request(name) for name in names))
+    if program.returncode != 0:
+        sys.exit("the store was not opened: status %d, %s" % (program.returncode, errors.decode()))
+    return [name for name, status in zip(names, statuses(output)) if status != 409]
+
+
+def main():
+    rounds = int(sys.argv[1]) if len(sys.argv) > 1 else 100
+    acknowledged = []
+    with tempfile.TemporaryDirectory() as store:
+        for number in range(rounds):
+            new = killed_round(store, number)
+            acknowledged += new
+            lost = missing(store, new)
+            if lost:
+                sys.exit("round %d lost %d of %d acknowledged folders: %s" % (number, len(lost), len(new), lost[:5]))
+        lost = missing(store, acknowledged)
+    if lost:
+        sys.exit("%d acknowledged folders are gone at the end" % len(lost))
+    print("%d kills, %d folders acknowledged, none lost" % (rounds, len(acknowledged)))
+
+
+if __name__ == "__main__":
+    main()
