@@ -2,43 +2,50 @@
 //! standard error and ends with its code.
 #![tactic(auto)]
 
-use fh_world::{MemDisk, RealClock, StdSink, StdSource};
-use host_top::{Status, exit_code, run_pipe, status_line};
+use fh_world::{FileDisk, RealClock, StdSink, StdSource};
+use host_top::{Plan, Status, WordsFault, exit_code, read_words, run_pipe, status_line};
+use std::env;
 use std::process::ExitCode;
-use std::{env, io};
 
-/// The words after the program's name.
-fn words_of(rt: &HostRuntime) -> io::Result<Vec<String>> {
+/// The words after the program's name. A word that isn't UTF-8 is no word of a command.
+fn words_of(rt: &HostRuntime) -> Result<Vec<String>, WordsFault> {
+    let Ok(given) = env::args(rt) else {
+        return Err(WordsFault::Usage);
+    };
     let mut words = Vec::new(rt.alloc());
-    for word in env::args(rt)?.skip(1) {
-        words.push(word)?;
+    for word in given.skip(1) {
+        if words.push(word).is_err() {
+            return Err(WordsFault::NoMemory);
+        }
     }
     Ok(words)
 }
 
-fn run(rt: &HostRuntime) -> Status {
+/// Runs the command over the folder that its words name, standard input and standard output.
+fn run(rt: &HostRuntime) -> Result<Status, WordsFault> {
     let alloc = rt.alloc();
-    let Ok(words) = words_of(rt) else {
-        return Status::Usage;
-    };
-    let Ok(mut disk) = MemDisk::new(alloc) else {
-        return Status::NoMemory;
-    };
+    let words = words_of(rt)?;
+    let Plan::Pipe { store, .. } = read_words(alloc, &words)?;
+    let mut disk = FileDisk::open(rt, store.as_str());
     let mut input = StdSource::new(rt.stdin());
     let mut output = StdSink::new(rt.stdout());
     let mut clock = RealClock::new(rt);
-    run_pipe(
+    Ok(run_pipe(
         alloc,
         &words,
         &mut disk,
         &mut input,
         &mut output,
         &mut clock,
-    )
+    ))
 }
 
 fn main(rt: HostRuntime) -> ExitCode {
-    let status = run(&rt);
+    let status = match run(&rt) {
+        Ok(status) => status,
+        Err(WordsFault::Usage) => Status::Usage,
+        Err(WordsFault::NoMemory) => Status::NoMemory,
+    };
     if status != Status::Done {
         if let Ok(line) = status_line(rt.alloc(), &status) {
             let _ = eprintln!(rt; "{}", line.as_str());

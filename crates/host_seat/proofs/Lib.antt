@@ -1,1 +1,1 @@
-pub mod RunLaws
+mod Commits

@@ -26,6 +26,6 @@ pub record Ran {D : Type 0} (d : disk.Ghosts D) (old new : Opened D) : Type 0 wh
   pub place : d.place new.disk ≡ d.place old.disk
   pub later : d.faults old.disk ≤ d.faults new.disk
   pub follows : Follows new.image old.image
-  pub finished : Follows (finished new) (finished old)
+  pub all_follows : Follows (finished new) (finished old)
   pub kept : IsTrue d.tells → IsKept d old → IsKept d new
   pub crash : IsTrue d.tells → IsKept d old → LeavesOnly d.moment d.left_since old.disk new.disk (Between old.image (finished new))

@@ -11,7 +11,7 @@ const SEAT: u64 = 1;
 
 /// A store that serves one connection at a time, and which it owns.
 #[derive(Drop)]
-pub struct Direct<D> {
+pub struct Direct<D: Disk> {
     store: Store<D>,
 }
 
@@ -36,7 +36,7 @@ impl<D: Disk> Direct<D> {
 impl<D: Disk> Port for Direct<D> {
     ghost use Rattle.std.specs.Prelude.{true};
     ghost use Rattle.host_seat.specs.Direct.{Ran, waiting_in};
-    ghost use Rattle.host_seat.proofs.RunLaws.{ran_nothing, ran_on};
+    ghost use Rattle.host_seat.specs.RunLaws.{ran_nothing, ran_on};
 
     ghost went = { λ old new. Ran D.Disk old.store new.store };
 
@@ -50,9 +50,9 @@ impl<D: Disk> Port for Direct<D> {
 
     ghost alone = { true };
 
-    ghost nothing = { λ direct. ran_nothing _ D.only_now direct.store };
+    ghost nothing = { λ direct. ran_nothing (record { place = D.place; tells = D.tells; seen = D.seen; may_leave = D.may_leave; moment = D.moment; left_since = D.left_since; faults = D.faults }) D.only_now direct.store };
 
-    ghost on = { λ a b c first second. ran_on _ a.store b.store c.store first second };
+    ghost on = { λ a b c first second. ran_on (record { place = D.place; tells = D.tells; seen = D.seen; may_leave = D.may_leave; moment = D.moment; left_since = D.left_since; faults = D.faults }) a.store b.store c.store first second };
 
     /// Where a command waits for the disk nothing more is let in: the answer is want of memory, the one that is free.
     fn commit(&mut self, at: u64, act: Act, bytes: &[u8]) -> Result<Reply, CommitFault> {

@@ -1,8 +1,10 @@
--- The statuses of the program: their lines, and the ends of a connection that they tell.
+-- The statuses of the program: their lines, and the ends of a connection and the refusals of a store that they tell.
 use Rattle.std.specs.Prelude.{ℕ, codes, List, [], ◌++◌}
 use Rattle.std.specs.Fmt.{decimal}
 use Rattle.session_http.specs.declared.conn.ConnEnd.{ConnEnd}
 use Rattle.session_http.specs.declared.conn.ConnEnd.TheVariants as end
+use Rattle.store_core.specs.declared.faults.StoreFault.{StoreFault}
+use Rattle.store_core.specs.declared.faults.StoreFault.TheVariants as fault
 use Rattle.host_top.specs.declared.status.Status.{Status}
 use Rattle.host_top.specs.declared.status.Status.TheVariants.{Done, Usage, NotAStore, Damaged, DiskFault, NoMemory, ReadFault, WriteFault, Cut, Bad, Spent}
 
@@ -42,3 +44,9 @@ status_of end.WriteFault = WriteFault
 status_of end.DiskFault = DiskFault
 status_of end.NoMemory = NoMemory
 status_of end.Spent = Spent
+
+abbrev pub refusal_of : StoreFault → Status
+refusal_of fault.Disk = DiskFault
+refusal_of (fault.NotAStore place) = NotAStore place
+refusal_of (fault.Damaged place) = Damaged place
+refusal_of fault.NoMemory = NoMemory

@@ -1,10 +1,12 @@
 //! What no clause says: that memory is there, that each call succeeds on a happy path, and the worked examples.
 ghost use Rattle.std.specs.Prelude.{◌<◌, ◌≤◌, None, length};
 
-use crate::{Plan, Status, WordsFault, read_words, run_pipe, status_line};
-use fh_world::{Failed, FakeClock, MemDisk, MemSink, MemSource, Sink, Source};
+use crate::{Plan, Status, WordsFault, exit_code, read_words, run_pipe, status_line};
+use fh_model::Row;
+use fh_world::{Disk, Failed, FakeClock, FileNo, FuseDisk, MemDisk, MemSink, MemSource, Sink, Source};
 use std::alloc::{AllocError, Global};
 use std::test::Fail;
+use store_core::Store;
 
 const PIPE: [&str; 5] = ["pipe", "--store", ".", "--admin", "rootroot"];
 
@@ -36,7 +38,7 @@ fn joined(alloc: Global, parts: &[&[u8]]) -> Result<Vec<u8>, AllocError> {
     Ok(bytes)
 }
 
-/// One run over ends in memory.
+/// One run over an empty disk and ends in memory.
 fn run(
     rt: &HostRuntime,
     words: &[&str],
@@ -44,15 +46,27 @@ fn run(
     failing_reads: &[u64],
     failing_writes: &[u64],
 ) -> Result<(Status, MemSink), Fail> {
+    let mut disk = MemDisk::new(rt.alloc())?;
+    run_over(rt, &mut disk, words, input, failing_reads, failing_writes)
+}
+
+/// One run over a disk and ends in memory.
+fn run_over<D: Disk>(
+    rt: &HostRuntime,
+    disk: &mut D,
+    words: &[&str],
+    input: &[u8],
+    failing_reads: &[u64],
+    failing_writes: &[u64],
+) -> Result<(Status, MemSink), Fail> {
     let alloc = rt.alloc();
-    let mut disk = MemDisk::new(alloc)?;
     let mut source = MemSource::new(Vec::from_slice(alloc, input)?, 7);
     source.fail_calls(failing_reads)?;
     let mut sink = MemSink::new(alloc);
     sink.fail_calls(failing_writes)?;
     let mut clock = FakeClock::new(1_700_000_000);
     let words = words_of(alloc, words)?;
-    let status = run_pipe(alloc, &words, &mut disk, &mut source, &mut sink, &mut clock);
+    let status = run_pipe(alloc, &words, disk, &mut source, &mut sink, &mut clock);
     Ok((status, sink))
 }
 
@@ -279,5 +293,110 @@ fn a_connection_is_spent_after_a_million_requests(rt: HostRuntime) -> Result<(),
     assert!(rt; status == Status::Spent);
     assert!(rt; source.left == 1);
     assert!(rt; sink.bytes == MADE.len() as u64 + 999_999 * TAKEN.len() as u64);
+    Ok(())
+}
+
+#[test]
+fn a_store_is_kept_between_two_runs(rt: HostRuntime) -> Result<(), Fail> {
+    let mut disk = MemDisk::new(rt.alloc())?;
+    let (status, sink) = run_over(&rt, &mut disk, &PIPE, b"", &[], &[])?;
+    assert!(rt; status == Status::Done && sink.bytes().is_empty());
+    assert!(rt; disk.bytes(FileNo::Head).len() == 18);
+    assert!(rt; disk.bytes(FileNo::SlotA).len() == 125);
+    let (status, sink) = run_over(&rt, &mut disk, &PIPE, DOCS, &[], &[])?;
+    assert!(rt; status == Status::Done && sink.bytes() == MADE);
+    let (status, sink) = run_over(&rt, &mut disk, &PIPE, DOCS_AGAIN, &[], &[])?;
+    assert!(rt; status == Status::Done && sink.bytes() == TAKEN);
+    assert!(rt; disk.bytes(FileNo::Head).len() == 18);
+    assert!(rt; disk.bytes(FileNo::SlotA).len() == 169);
+    assert!(rt; disk.bytes(FileNo::SlotB).is_empty() && disk.bytes(FileNo::Blocks).is_empty());
+    Ok(())
+}
+
+#[test]
+fn files_that_hold_no_store_are_told(rt: HostRuntime) -> Result<(), Fail> {
+    let alloc = rt.alloc();
+    let named = b"\xa5filehost store 1\x01";
+    for (head, slot, status, line) in [
+        (
+            b"\xa5\0\0\0\0\0\0\0\0\0\0\0\0\0\0\0\0\0",
+            b"".as_slice(),
+            Status::NotAStore { place: 1 },
+            "filehost: not a store at byte 1",
+        ),
+        (
+            named,
+            b"",
+            Status::Damaged { place: 0 },
+            "filehost: damaged at byte 0",
+        ),
+        (
+            named,
+            b"\xa5\0\0\0\0\0\0\0\x01\x07\0",
+            Status::Damaged { place: 0 },
+            "filehost: damaged at byte 0",
+        ),
+    ] {
+        let mut disk = MemDisk::with(alloc, head, slot, b"", b"")?;
+        let (found, sink) = run_over(&rt, &mut disk, &PIPE, DOCS, &[1], &[1])?;
+        assert!(rt; found == status && exit_code(found) == 3);
+        assert!(rt; status_line(alloc, &found)?.as_str() == line);
+        assert!(rt; sink.bytes().is_empty());
+        assert!(rt; disk.bytes(FileNo::Head) == head && disk.bytes(FileNo::SlotA) == slot);
+    }
+    Ok(())
+}
+
+#[test]
+fn a_spent_counter_refuses_and_leaves_the_slot(rt: HostRuntime) -> Result<(), Fail> {
+    let alloc = rt.alloc();
+    let mut disk = MemDisk::new(alloc)?;
+    run_over(&rt, &mut disk, &PIPE, b"", &[], &[])?;
+    let mut slot = Vec::from_slice(alloc, disk.bytes(FileNo::SlotA))?;
+    // The next id stands behind the gate, the length, the kind and the next rev; 2^62 is the first that is spent.
+    for (place, byte) in [(18, 0x40), (25, 0)] {
+        match slot.get_mut(place) {
+            Some(found) => *found = byte,
+            None => {}
+        }
+    }
+    let mut disk = MemDisk::with(alloc, disk.bytes(FileNo::Head), &slot, b"", b"")?;
+    let (status, sink) = run_over(&rt, &mut disk, &PIPE, DOCS, &[], &[])?;
+    assert!(rt; status == Status::Done);
+    assert!(rt; sink.bytes() == b"HTTP/1.1 409 Conflict\r\nContent-Type: application/json\r\nContent-Length: 70\r\n\r\n{\"error\":{\".tag\":\"numbers_spent\"},\"error_summary\":\"numbers_spent/...\"}");
+    assert!(rt; disk.bytes(FileNo::SlotA) == slot.as_slice());
+    Ok(())
+}
+
+/// The next id of the store that the disk holds, which tells how many folders were made; none where it isn't opened.
+fn next_id(alloc: Global, disk: MemDisk) -> Option<u64> {
+    let store = Store::open(alloc, disk).ok()?;
+    let rows = store.image().rows(alloc).ok()?;
+    match rows.first() {
+        Some(Row::Counters { id, .. }) => Some(*id),
+        _ => None,
+    }
+}
+
+#[test]
+fn a_stop_at_any_call_of_the_disk_loses_nothing_acknowledged(
+    rt: HostRuntime,
+) -> Result<(), Fail> {
+    let alloc = rt.alloc();
+    let input = joined(alloc, &[DOCS, DOCS_AGAIN])?;
+    for calls in 0..24 {
+        let mut fuse = FuseDisk::new(MemDisk::new(alloc)?, calls);
+        let (status, sink) = run_over(&rt, &mut fuse, &PIPE, &input, &[], &[])?;
+        let acknowledged = sink.bytes().starts_with(MADE);
+        assert!(rt; acknowledged == (status == Status::Done), "after {calls} calls");
+        assert!(rt; acknowledged || status == Status::DiskFault, "after {calls} calls");
+        let disk = fuse.into_inner();
+        for choice in 0..32 {
+            let id = next_id(alloc, disk.crashed(choice)?);
+            let stands = id == Some(2) || (id == Some(1) && !acknowledged);
+            assert!(rt; stands, "after {calls} calls, choice {choice}");
+        }
+        assert!(rt; calls < 23 || acknowledged);
+    }
     Ok(())
 }

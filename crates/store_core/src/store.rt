@@ -1,6 +1,7 @@
 //! The store.
-ghost use Rattle.std.specs.Prelude.{◌≡◌, ◌≤◌, ℕ, [], false, is_some, List, Option, None, IsTrue, IfOk, IfErr, OnOk, OnErr, IsErrOf};
-ghost use Rattle.cmd_codec.specs.Commands.{HasSpelling};
+ghost use Rattle.std.specs.Prelude.{◌≡◌, ◌≤◌, ℕ, [], true, false, is_some, List, Option, None, IsTrue, IfOk, IfErr, OnOk, OnErr, IsErrOf};
+ghost use Rattle.byte_formats.specs.Spelling.{Spells};
+ghost use Rattle.cmd_codec.specs.Commands.{HasSpelling, command};
 ghost use Rattle.fh_model.specs.History.{state_of, next_of, reply_of};
 ghost use Rattle.fh_model.specs.Step.{step};
 ghost use Rattle.fh_world.specs.Causes.{Rose};
@@ -13,9 +14,9 @@ ghost use Rattle.store_core.specs.Store.{IsKept, StandsFor, finished};
 use crate::opening::open_on;
 use crate::{CommitFault, StoreFault};
 use cmd_codec::encode;
-use fh_model::{Cmd, Reply};
+use fh_model::{Cmd, NoMemory, Reply};
 use fh_world::Disk;
-use gate_journal::{AppendFault, Journal, frame};
+use gate_journal::{AppendFault, Journal, Record, frame};
 use name_core::Image;
 use std::alloc::Global;
 use std::marker::Model;
@@ -92,12 +93,31 @@ impl<D: Disk> Store<D> {
         if next.history().len() == self.image.history().len() {
             return Ok(reply);
         }
-        let body = encode(self.alloc, &cmd)?;
-        let framed = frame(self.alloc, &body)?;
-        match self.journal.append(&mut self.disk, &framed) {
+        let framed = framed_command(self.alloc, &cmd)?;
+        self.append(cmd, next, &framed)?;
+        Ok(reply)
+    }
+
+    /// Appends the record of a command that enters, and takes the image that it makes.
+    fn append(&mut self, cmd: Cmd, next: Image, framed: &Record) -> Result<(), CommitFault>
+        requires idle { self.old.waiting ≡ None }
+        requires enters { (step (state_of self.old.image) cmd).enters ≡ true }
+        requires next { next ≡ next_of self.old.image cmd }
+        requires spelled { Spells command framed.now cmd }
+        ensures entered { OnOk result ((self.new.image ≡ next) × (self.new.waiting ≡ None)) }
+        ensures fault { OnErr result (IsFaulted self.old cmd self.new) }
+        ensures kept { IsTrue D.tells → IsKept D.Disk self.new }
+        ensures any_moment { IsTrue D.tells → LeavesOnly D.moment D.left_since self.old.disk self.new.disk (StandsAround self.old cmd) }
+        ensures unwritten { OnErr result (self.new.waiting ≡ None → IsTrue D.tells → LeavesOnly D.moment D.left_since self.old.disk self.new.disk (λ files. StandsFor files self.old.image self.old.waiting)) }
+        ensures place { D.place self.new.disk ≡ D.place self.old.disk }
+        ensures later { D.faults self.old.disk ≤ D.faults self.new.disk }
+        ensures cause { OnErr result (Rose (D.faults self.old.disk) (D.faults self.new.disk)) }
+        ensures disk { IfErr result (λ fault. fault ≡ CommitFault.Disk) }
+    {
+        match self.journal.append(&mut self.disk, framed) {
             Ok(()) => {
                 self.image = next;
-                Ok(reply)
+                Ok(())
             }
             Err(AppendFault::Disk) => {
                 if !self.journal.pending() {
@@ -132,4 +152,13 @@ impl<D: Disk> Store<D> {
         let Store { disk, .. } = self;
         disk
     }
+}
+
+/// The record of a command.
+fn framed_command(alloc: Global, cmd: &Cmd) -> Result<Record, NoMemory>
+    requires { HasSpelling cmd.now }
+    ensures { IfOk result (λ framed. Spells command framed cmd.now) }
+{
+    let body = encode(alloc, cmd)?;
+    frame(alloc, &body)
 }

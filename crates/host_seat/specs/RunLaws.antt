@@ -33,7 +33,7 @@ module _ {D : Type 0} (d : disk.Ghosts D) where
     place = refl;
     later = omega arith;
     follows = follows_same a.image;
-    finished = follows_same (finished a);
+    all_follows = follows_same (finished a);
     kept = λ told kept. kept;
     crash = λ told kept. started d.moment d.left_since a.disk (Between a.image (finished a))
         (λ image left. stands_between a.image a.waiting image (kept image (λ g. only_now a.disk image left g)));
@@ -44,11 +44,11 @@ module _ {D : Type 0} (d : disk.Ghosts D) where
     place = second.place ∙ first.place;
     later = omega (arith, first.later, second.later);
     follows = follows_more a.image b.image c.image first.follows second.follows;
-    finished = follows_more (finished a) (finished b) (finished c) first.finished second.finished;
+    all_follows = follows_more (finished a) (finished b) (finished c) first.all_follows second.all_follows;
     kept = λ told kept. second.kept told (first.kept told kept);
     crash = λ told kept. joined d.moment d.left_since a.disk b.disk c.disk (Between a.image (finished c))
         (weaker d.moment d.left_since a.disk b.disk (Between a.image (finished b)) (Between a.image (finished c)) (first.crash told kept)
-        (λ image h. (h.0, h.1, follows_more h.0 (finished b) (finished c) h.2 second.finished, h.3)))
+        (λ image h. (h.0, h.1, follows_more h.0 (finished b) (finished c) h.2 second.all_follows, h.3)))
         (weaker d.moment d.left_since b.disk c.disk (Between b.image (finished c)) (Between a.image (finished c)) (second.crash told (first.kept told kept))
         (λ image h. (h.0, follows_more a.image b.image h.0 first.follows h.1, h.2, h.3)));
   }
@@ -87,7 +87,7 @@ module _ {D : Type 0} (d : disk.Ghosts D) (old new : Opened D) (cmd : Cmd) (plac
         place = place;
         later = later;
         follows = follows;
-        finished = follows_more (finished old) (next_of (finished old) cmd) (finished new) (follows_next (finished old) cmd) last;
+        all_follows = follows_more (finished old) (next_of (finished old) cmd) (finished new) (follows_next (finished old) cmd) last;
         kept = λ told _. kept told;
         crash = λ told _. weaker d.moment d.left_since old.disk new.disk (StandsAround old cmd) (Between old.image (finished new)) (run told)
             (between_around old cmd (finished new) last);
@@ -109,7 +109,7 @@ module _ {D : Type 0} (d : disk.Ghosts D) (old new : Opened D) (cmd : Cmd) (plac
           place = place;
           later = later;
           follows = follows;
-          finished = last;
+          all_follows = last;
           kept = λ told _. kept told;
           crash = λ told _. weaker d.moment d.left_since old.disk new.disk (λ files. StandsFor files old.image old.waiting) (Between old.image (finished new)) (unwritten none told)
               (between_for old (finished new) last);
