@@ -35,7 +35,7 @@ use Rattle.host_top.specs.declared.status.Status.TheVariants as status
 ends_earlier : (e : ConnEnd) (t : Terms) (before now : Moment) (faults : ℕ) → faults ≤ before.port_faults → (answered broken : List _) (rest part : List ℕ)
     → EndsBy e t before now answered broken rest part → EndsBy e t (record before { port_faults = faults }) now answered broken rest part
 ends_earlier end.DiskFault t before now faults le answered broken rest part h =
-    (h.0, h.1, rose_since faults before.port_faults now.port_faults le h.2, h.3)
+    (h.0, h.1, rose_since faults before.port_faults now.port_faults le h.2, h.3, h.4, h.5, h.6, h.7, h.8, h.9)
 ends_earlier end.Ended t before now faults le answered broken rest part h = h
 ends_earlier end.Cut t before now faults le answered broken rest part h = h
 ends_earlier end.Bad t before now faults le answered broken rest part h = h
@@ -82,7 +82,6 @@ is_opened kept none = ap (λ (h : List Cmd). record { start = kept.start; histor
 
 module _ {D S K : Type 0} (of_disk : disk.Ghosts D) (of_source : source.Ghosts S) (of_sink : sink.Ghosts K) (second : Option ℕ) (admin : List ℕ)
     (disk_old : D) (s t : S) (k l : K) (result : Status) where
-
   -- a store that was opened from this disk and then served
   pub pipe_served : (old new : Opened D) → (old.image.history ≡ []) × (old.waiting ≡ None)
       → (IsTrue of_disk.tells → StandsOrNew (of_disk.seen disk_old) old.image.start)
@@ -96,12 +95,12 @@ module _ {D S K : Type 0} (of_disk : disk.Ghosts D) (of_source : source.Ghosts S
       let is : old.image ≡ opened start = is_opened old.image fresh.0 in
       let last : Kept = with_waiting new.image new.waiting in
       let from_start : Follows last (opened start) =
-          subst (λ (k : Kept). Follows last k) is (follows_more old.image new.image last served.ran.follows (follows_waiting new.image new.waiting)) in
+      subst (λ (k : Kept). Follows last k) is (follows_more old.image new.image last served.ran.follows (follows_waiting new.image new.waiting)) in
       let before : Moment = alone_with of_source of_sink (opened start) None (of_disk.faults old.disk) s k in
       let now : Moment = alone_with of_source of_sink new.image new.waiting (of_disk.faults new.disk) t l in
       let from_opened : Served (terms true second admin) before now served.end =
-          subst (λ (k0 : Kept). Served (terms true second admin) (alone_with of_source of_sink k0 None (of_disk.faults old.disk) s k) now served.end) is
-          (subst (λ (w : Option Cmd). Served (terms true second admin) (alone_with of_source of_sink old.image w (of_disk.faults old.disk) s k) now served.end) fresh.1 served.served) in
+      subst (λ (k0 : Kept). Served (terms true second admin) (alone_with of_source of_sink k0 None (of_disk.faults old.disk) s k) now served.end) is
+      (subst (λ (w : Option Cmd). Served (terms true second admin) (alone_with of_source of_sink old.image w (of_disk.faults old.disk) s k) now served.end) fresh.1 served.served) in
       record {
         start = start;
         kept = new.image;
@@ -254,10 +253,12 @@ module _ {D S K : Type 0} (of_disk : disk.Ghosts D) (of_source : source.Ghosts S
     said_back fault.NoMemory found refusal said e is = inr (inr is)
     said_back (fault.NotAStore at) found refusal said e is =
         let shown : Some (status.NotAStore at) ≡ Some refusal = sym (ap refused_as said) ∙ e in
-        inl (is ∙ (cc : status.NotAStore at ≡ refusal))
+        let same : status.NotAStore at ≡ refusal = cc in
+        inl (is ∙ same)
     said_back (fault.Damaged at) found refusal said e is =
         let shown : Some (status.Damaged at) ≡ Some refusal = sym (ap refused_as said) ∙ e in
-        inl (is ∙ (cc : status.Damaged at ≡ refusal))
+        let same : status.Damaged at ≡ refusal = cc in
+        inl (is ∙ same)
 
     none_refused : (seen : Files) (start : State) (refusal : Status) → StandsOrNew seen start → refused_as (contents seen) ≡ Some refusal → ⊥
     none_refused seen start refusal (inl stands) e = let n : None ≡ Some refusal = sym (ap refused_as stands.stored) ∙ e in cc
@@ -298,4 +299,21 @@ nothing_served of_disk of_source of_sink second admin store s k ran = record {
   is = refl;
   served = serve_nothing (terms true second admin) (alone_with of_source of_sink store.image store.waiting (of_disk.faults store.disk) s k);
   ran = ran;
+}
+
+-- the store was not opened
+pub refused_opening : {D S K : Type 0} (of_disk : disk.Ghosts D) (of_source : source.Ghosts S) (of_sink : sink.Ghosts K) (disk_old disk_new : D) (s : S) (k : K) (f : StoreFault) (result : Status)
+    → result ≡ refusal_of f → (IsTrue of_disk.tells → IsSaid (contents (of_disk.seen disk_old)) f) → (f ≡ fault.Disk → Rose (of_disk.faults disk_old) (of_disk.faults disk_new))
+    → (IsTrue of_disk.tells → KeepsMeaning (of_disk.seen disk_old) (of_disk.seen disk_new))
+    → (IsTrue of_disk.tells → LeavesOnly of_disk.moment of_disk.left_since disk_old disk_new (LeavesMeaning (of_disk.may_leave disk_old) (of_disk.seen disk_old)))
+    → PipeRefused of_disk of_source of_sink disk_old disk_new s s k k result
+refused_opening of_disk of_source of_sink disk_old disk_new s k f result is said rose meaning crash = record {
+  fault = f;
+  is = is;
+  said = said;
+  rose = rose;
+  moves = moves_none of_source.given of_source.left s;
+  holds = known_none (of_sink.held k);
+  meaning = meaning;
+  crash = crash;
 }

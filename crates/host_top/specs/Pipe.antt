@@ -17,7 +17,7 @@ use Rattle.store_core.specs.Files.{Contents, New, NotAStore, Damaged, Stored, co
 use Rattle.store_core.specs.Open.{IsSaid, LeavesMeaning}
 use Rattle.store_core.specs.Store.{Opened, StandsFor, with_waiting}
 use Rattle.store_core.specs.declared.faults.StoreFault.{StoreFault}
-use Rattle.store_core.specs.declared.faults.StoreFault.TheVariants as fault
+use Rattle.store_core.specs.declared.faults.StoreFault.TheVariants as store_fault
 use Rattle.host_top.specs.declared.status.Status.{Status}
 use Rattle.host_top.specs.declared.status.Status.TheVariants as status
 use Rattle.host_top.specs.Status.{status_of, refusal_of}
@@ -75,7 +75,7 @@ pub record PipeRefused {D S K : Type 0} (of_disk : disk.Ghosts D) (of_source : s
   pub fault : StoreFault
   pub is : result ≡ refusal_of fault
   pub said : IsTrue of_disk.tells → IsSaid (contents (of_disk.seen disk_old)) fault
-  pub rose : fault ≡ fault.Disk → Rose (of_disk.faults disk_old) (of_disk.faults disk_new)
+  pub rose : fault ≡ store_fault.Disk → Rose (of_disk.faults disk_old) (of_disk.faults disk_new)
   pub moves : Moves of_source.given of_source.left input_old input_new []
   pub holds : Holds of_sink.held output_old output_new []
   pub meaning : IsTrue of_disk.tells → KeepsMeaning (of_disk.seen disk_old) (of_disk.seen disk_new)

@@ -76,7 +76,29 @@ fn serve_words<D: Disk, S: Source, K: Sink, C: Clock>(
         Err(WordsFault::NoMemory) => return Status::NoMemory,
     };
     let Plan::Pipe { admin, .. } = plan;
-    let (status, _, _, _) = serve_disk(alloc, disk, input, output, clock, &admin);
+    serve_lent(alloc, disk, input, output, clock, &admin)
+}
+
+/// Serves one connection over a disk and ends that it is lent.
+fn serve_lent<D: Disk, S: Source, K: Sink, C: Clock>(
+    alloc: Global,
+    disk: &mut D,
+    input: &mut S,
+    output: &mut K,
+    clock: &mut C,
+    admin: &Text,
+) -> Status
+    requires { IsToken admin.now }
+    ensures usage { result ≡ Status.Usage → ⊥ }
+    ensures ran { PipeRan D.Disk S.Source K.Sink (C.second clock.old) admin.now disk.old disk.new input.old input.new output.old output.new result }
+    ensures read { result ≡ Status.ReadFault → Rose (S.faults input.old) (S.faults input.new) }
+    ensures write { result ≡ Status.WriteFault → Rose (K.faults output.old) (K.faults output.new) }
+    ensures disk { result ≡ Status.DiskFault → Rose (D.faults disk.old) (D.faults disk.new) }
+    ensures disk_place { D.place disk.new ≡ D.place disk.old }
+    ensures input_place { S.place input.new ≡ S.place input.old }
+    ensures output_place { K.place output.new ≡ K.place output.old }
+{
+    let (status, _, _, _) = serve_disk(alloc, disk, input, output, clock, admin);
     status
 }
 

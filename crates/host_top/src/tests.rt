@@ -3,7 +3,9 @@ ghost use Rattle.std.specs.Prelude.{◌<◌, ◌≤◌, None, length};
 
 use crate::{Plan, Status, WordsFault, exit_code, read_words, run_pipe, status_line};
 use fh_model::Row;
-use fh_world::{Disk, Failed, FakeClock, FileNo, FuseDisk, MemDisk, MemSink, MemSource, Sink, Source};
+use fh_world::{
+    Disk, Failed, FakeClock, FileNo, FuseDisk, MemDisk, MemSink, MemSource, Sink, Source,
+};
 use std::alloc::{AllocError, Global};
 use std::test::Fail;
 use store_core::Store;
@@ -363,7 +365,10 @@ fn a_spent_counter_refuses_and_leaves_the_slot(rt: HostRuntime) -> Result<(), Fa
     let mut disk = MemDisk::with(alloc, disk.bytes(FileNo::Head), &slot, b"", b"")?;
     let (status, sink) = run_over(&rt, &mut disk, &PIPE, DOCS, &[], &[])?;
     assert!(rt; status == Status::Done);
-    assert!(rt; sink.bytes() == b"HTTP/1.1 409 Conflict\r\nContent-Type: application/json\r\nContent-Length: 70\r\n\r\n{\"error\":{\".tag\":\"numbers_spent\"},\"error_summary\":\"numbers_spent/...\"}");
+    assert!(rt;
+        sink.bytes()
+            == b"HTTP/1.1 409 Conflict\r\nContent-Type: application/json\r\nContent-Length: 70\r\n\r\n{\"error\":{\".tag\":\"numbers_spent\"},\"error_summary\":\"numbers_spent/...\"}"
+    );
     assert!(rt; disk.bytes(FileNo::SlotA) == slot.as_slice());
     Ok(())
 }
@@ -379,17 +384,21 @@ fn next_id(alloc: Global, disk: MemDisk) -> Option<u64> {
 }
 
 #[test]
-fn a_stop_at_any_call_of_the_disk_loses_nothing_acknowledged(
-    rt: HostRuntime,
-) -> Result<(), Fail> {
+fn a_stop_at_any_call_of_the_disk_loses_nothing_acknowledged(rt: HostRuntime) -> Result<(), Fail> {
     let alloc = rt.alloc();
     let input = joined(alloc, &[DOCS, DOCS_AGAIN])?;
     for calls in 0..24 {
         let mut fuse = FuseDisk::new(MemDisk::new(alloc)?, calls);
         let (status, sink) = run_over(&rt, &mut fuse, &PIPE, &input, &[], &[])?;
         let acknowledged = sink.bytes().starts_with(MADE);
-        assert!(rt; acknowledged == (status == Status::Done), "after {calls} calls");
-        assert!(rt; acknowledged || status == Status::DiskFault, "after {calls} calls");
+        assert!(rt;
+            acknowledged == (status == Status::Done),
+            "after {calls} calls"
+        );
+        assert!(rt;
+            acknowledged || status == Status::DiskFault,
+            "after {calls} calls"
+        );
         let disk = fuse.into_inner();
         for choice in 0..32 {
             let id = next_id(alloc, disk.crashed(choice)?);

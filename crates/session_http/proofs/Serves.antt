@@ -75,8 +75,17 @@ fail_ends : (end : ConnEnd) (t : Terms) (before now : Moment) (number : ℕ) (wa
     → FailsBy end t number name faults now.port_faults waits now.waits → EndsBy end t before now turns [] (request_text t.token name ++ after) []
 fail_ends DiskFault t before now number waits faults turns name after same later left fails =
     let P : ℕ → Type 0 = λ n. Leaves waits (cmd_of n fails.1 ∷ []) now.waits in (
-      refl, refl, rose_since before.port_faults faults now.port_faults later fails.0, name, after, refl, fails.1, fails.2, fails.3,
-      leaves_more before.waits waits now.waits (cmd_of before.number fails.1 ∷ []) left (subst P same fails.4))
+      refl,
+      refl,
+      rose_since before.port_faults faults now.port_faults later fails.0,
+      name,
+      after,
+      refl,
+      fails.1,
+      fails.2,
+      fails.3,
+      leaves_more before.waits waits now.waits (cmd_of before.number fails.1 ∷ []) left (subst P same fails.4),
+    )
 fail_ends NoMemory t before now number waits faults turns name after same later left fails = refl
 fail_ends Ended t before now number waits faults turns name after same later left fails = absurd fails
 fail_ends Cut t before now number waits faults turns name after same later left fails = absurd fails

@@ -1,0 +1,21 @@
+use Rattle.std.proofs.Common.{refl}
+use Rattle.host_seat.specs.RunLaws.{ran_nothing}
+use Rattle.host_top.proofs.Ends.{nothing_served}
+use Rattle.host_top.proofs.pipe.serve_store.Goals as goal
+
+pub returns-in-Err-clause-served : goal.returns-in-Err-clause-served
+returns-in-Err-clause-served g c =
+    rw (c.into_store.ensures, c.new-port.ensures, c.in-Err.ensures.err.0, c.in-Err.ensures.err.1)
+    (nothing_served g.D.Disk g.S.Source g.K.Sink (g.C.Clock.second c.args.clock.now) c.args.admin.now c.args.store c.args.input c.args.output
+    (ran_nothing g.D.Disk g.met.D.Disk.only_now c.args.store))
+
+pub returns-clause-served : goal.returns-clause-served
+returns-clause-served g c =
+    let connection = c.serve_conn-end.ensures in
+    rw (c.into_store-2.ensures, c.into_ends-input.ensures.source, c.into_ends-input.ensures.sink, c.status_of.ensures)
+    (record {
+      end = c.serve_conn-end.result;
+      is = refl;
+      served = rw (c.new-port.ensures, c.in-Ok.ensures.ends.0, c.in-Ok.ensures.ends.1) at connection.served;
+      ran = rw c.new-port.ensures at connection.went;
+    })
