@@ -22,4 +22,6 @@ pub use faults::{LookFault, RowsFault};
 pub use image::Image;
 
 #[cfg(test)]
+mod path_tests;
+#[cfg(test)]
 mod tests;
