@@ -128,18 +128,17 @@ fn looked(rt: HostRuntime, image: &Image, user: u64, path: &str) -> Result<Strin
     }
 }
 
-/// The image after the folders of the first table, and the first path that was answered otherwise.
-fn made(rt: HostRuntime) -> Result<(Image, Option<&'static str>), Fail> {
+/// The image after the folders of the first table. It fails with the first path that is answered otherwise.
+fn made(rt: HostRuntime) -> Result<Image, Fail> {
     let mut image = Image::empty(rt.alloc())?;
-    let mut odd = None;
     for (path, want) in &MADE {
         let (next, reply) = image.apply(&make(rt, 1, path)?)?;
         if replied(rt, &reply)?.as_str() != *want {
-            odd = Some(*path);
+            return Err((*path).into());
         }
         image = next;
     }
-    Ok((image, odd))
+    Ok(image)
 }
 
 fn first_odd_look(rt: HostRuntime, image: &Image) -> Result<Option<&'static str>, Fail> {
@@ -153,8 +152,7 @@ fn first_odd_look(rt: HostRuntime, image: &Image) -> Result<Option<&'static str>
 
 #[test]
 fn paths_lead_to_one_place_however_they_are_cased(rt: HostRuntime) -> Result<(), Fail> {
-    let (image, odd) = made(rt)?;
-    assert!(rt; odd == None);
+    let image = made(rt)?;
     assert!(rt; image.history().len() == 6);
     assert!(rt; first_odd_look(rt, &image)? == None);
     Ok(())
