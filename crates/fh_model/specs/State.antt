@@ -1,13 +1,13 @@
 -- The machine's state, and what stands in it.
 use Rattle.std.specs.Prelude.{ℕ, ◌+◌, ◌^◌, ◌==◌, ◌||◌, nat_le, Bool, true, false, if◌then◌else◌, List, [], ◌∷◌, ◌++◌, find, length, map, Option, None, Some}
 use Rattle.std.specs.List.{list_any}
+use Rattle.std.specs.Option.{option_map}
+use Rattle.std.specs.Str.{bytes_eq}
 use Rattle.fh_model.specs.declared.changes.Change.{Change}
-use Rattle.fh_model.specs.declared.changes.Change.TheVariants.{Put, Gone}
-use Rattle.fh_model.specs.declared.names.Name.{Name}
 use Rattle.fh_model.specs.declared.state.Namespace.{Namespace}
 use Rattle.fh_model.specs.declared.state.Next.{Next}
 use Rattle.fh_model.specs.declared.state.User.{User}
-use Rattle.fh_model.specs.Keys.{Key, has_key}
+use Rattle.fh_model.specs.Trees.{Tree, tree_of}
 
 pub record State : Type 0 where
   pub users : List User
@@ -29,31 +29,37 @@ opening = record {
 abbrev pub user_of : State → ℕ → Option User
 user_of s number = find (λ user. user.number == number) s.users
 
-abbrev pub changes_in : Option Namespace → List Change
-changes_in None = []
-changes_in (Some space) = space.changes
+abbrev pub is_token : List ℕ → Option (List ℕ) → Bool
+is_token text None = false
+is_token text (Some token) = bytes_eq token text
 
--- the changes of a namespace from its floor on
-abbrev pub changes_of : State → ℕ → List Change
-changes_of s number = changes_in (find (λ space. space.number == number) s.namespaces)
+-- the user whose token this is
+abbrev pub has_token : List ℕ → User → Bool
+has_token text user = is_token text user.token
+
+abbrev pub token_user : State → List ℕ → Option ℕ
+token_user s text = option_map (λ user. user.number) (find (has_token text) s.users)
+
+-- the number of a user's home
+abbrev pub home_of : State → ℕ → Option ℕ
+home_of s number = option_map (λ user. user.home) (user_of s number)
+
+abbrev pub tree_or_none : Option Namespace → Tree
+tree_or_none None = []
+tree_or_none (Some space) = tree_of space
+
+-- the tree of the namespace with this number, empty where there is none
+abbrev pub tree_in : State → ℕ → Tree
+tree_in s number = tree_or_none (find (λ space. space.number == number) s.namespaces)
 
 -- the position behind a namespace's last change
 abbrev pub length_of : Namespace → ℕ
 length_of space = space.floor + length space.changes
 
--- whether a node stands at the key after the changes, where it is told of before them
-abbrev pub taken_after : Bool → Key → List Change → Bool
-taken_after before key [] = before
-taken_after before key (Put names node ∷ changes) = taken_after (before || has_key names key) key changes
-taken_after before key (Gone names ∷ changes) = taken_after (if has_key names key then false else before) key changes
-
-abbrev pub is_taken : List Change → Key → Bool
-is_taken changes key = taken_after false key changes
-
--- one more change of the namespace with this number
-abbrev pub grown : ℕ → Change → Namespace → Namespace
-grown number change space =
-    if space.number == number then record space { changes = space.changes ++ change ∷ [] } else space
+-- more changes of the namespace with this number
+abbrev pub grown : ℕ → List Change → Namespace → Namespace
+grown number changes space =
+    if space.number == number then record space { changes = space.changes ++ changes } else space
 
 -- a number from which on nothing more is given out
 abbrev pub spent_at : ℕ

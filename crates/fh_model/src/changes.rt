@@ -4,6 +4,9 @@ use crate::{Copies, Items, Names, NoMemory};
 #[derive(Debug, Drop)]
 pub enum Node {
     Folder { id: u64 },
+
+    /// A point of a home at which the namespace `ns` is mounted.
+    Mount { id: u64, ns: u64 },
 }
 
 /// One change of a namespace's tree.
@@ -19,10 +22,18 @@ pub enum Change {
 /// The changes of a namespace, the oldest first.
 pub type Changes = Items<Change>;
 
+/// What stands at a key of a tree, with the names as they were written.
+#[derive(Debug, Drop)]
+pub struct Item {
+    pub names: Names,
+    pub node: Node,
+}
+
 impl Copies for Node {
     fn copy(&self) -> Result<Node, NoMemory> {
         match self {
             Node::Folder { id } => Ok(Node::Folder { id: *id }),
+            Node::Mount { id, ns } => Ok(Node::Mount { id: *id, ns: *ns }),
         }
     }
 }
@@ -40,5 +51,13 @@ impl Copies for Change {
                 Ok(Change::Gone { names })
             }
         }
+    }
+}
+
+impl Copies for Item {
+    fn copy(&self) -> Result<Item, NoMemory> {
+        let names = self.names.copy()?;
+        let node = self.node.copy()?;
+        Ok(Item { names, node })
     }
 }

@@ -17,7 +17,7 @@ mod rows;
 mod state;
 mod text;
 
-pub use changes::{Change, Changes, Node};
+pub use changes::{Change, Changes, Item, Node};
 pub use commands::{Act, Cmd};
 pub use items::{Copies, Items, copy_all};
 pub use keys::Key;
@@ -27,7 +27,7 @@ pub use limits::{
 };
 pub use memory::NoMemory;
 pub use names::{Name, Names, Tags};
-pub use paths::{PathArg, Place};
+pub use paths::{Found, PathArg, Place};
 pub use replies::{Entry, Refusal, Reply};
 pub use rows::{Members, Row};
 pub use state::{Namespace, Next, User};

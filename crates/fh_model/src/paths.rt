@@ -1,4 +1,4 @@
-use crate::Names;
+use crate::{Names, Node};
 
 /// Where something stands: a namespace, by its number, and the names from its root.
 #[derive(Debug, Drop)]
@@ -21,4 +21,16 @@ pub enum PathArg {
 
     /// The number of a namespace, and names from its root.
     Ns(u64, Names),
+}
+
+/// What a user's path leads to.
+#[derive(Debug, Drop)]
+pub struct Found {
+    pub place: Place,
+
+    /// What stands there. The root of a namespace, and it alone, is no node.
+    pub node: Option<Node>,
+
+    /// The names in the user's view.
+    pub names: Names,
 }

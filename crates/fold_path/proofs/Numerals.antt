@@ -10,7 +10,7 @@ use Rattle.std.specs.Result.{OkIff}
 use Rattle.std.specs.Str.Parse.{AllDigits, IsNumeral, ParsesUnsigned, digits_value}
 use Rattle.std.specs.declared.result.Result.{Result}
 use Rattle.std.specs.declared.result.Result.TheVariants.{Ok, Err}
-use Rattle.fold_path.specs.PathRule.{is_lower_hex}
+use Rattle.fh_model.specs.PathRule.{is_lower_hex}
 
 lower_hex_digit : (c : ℕ) → is_lower_hex c ≡ true → digit_value c < 16
 lower_hex_digit c h = grind (arith, nat_tests)

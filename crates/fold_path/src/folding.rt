@@ -1,5 +1,5 @@
 ghost use Rattle.std.specs.Prelude.{◌≡◌, IfOk};
-ghost use Rattle.fold_path.specs.Folding.{folded};
+ghost use Rattle.fh_model.specs.Folding.{folded};
 
 use caseless::default_case_fold_str;
 use fh_model::{NoMemory, Text};

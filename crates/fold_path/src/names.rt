@@ -1,7 +1,7 @@
 //! The names of a path, between its slashes.
 ghost use Rattle.std.specs.Prelude.{◌≡◌, ◌==◌, IfOk, List, ℕ, map};
 ghost use Rattle.std.specs.List.{list_any};
-ghost use Rattle.fold_path.specs.PathRule.{parts_of, is_bad_name, has_bad_names, name_of};
+ghost use Rattle.fh_model.specs.PathRule.{parts_of, is_bad_name, has_bad_names, name_of};
 
 use crate::folding::fold_str;
 use fh_model::{Items, NAME_MAX_BYTES, NAMES_MAX, Name, Names, NoMemory, Text};

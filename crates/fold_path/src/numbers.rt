@@ -3,7 +3,7 @@ ghost use Rattle.std.specs.Prelude.{◌≡◌, true, false, MatchOption, length}
 ghost use Rattle.std.specs.Char.{is_ascii_digit};
 ghost use Rattle.std.specs.List.{list_all};
 ghost use Rattle.std.specs.Str.Parse.{digits_value};
-ghost use Rattle.fold_path.specs.PathRule.{is_lower_hex, is_bad_revision, is_bad_space, number_of};
+ghost use Rattle.fh_model.specs.PathRule.{is_lower_hex, is_bad_revision, is_bad_space, number_of};
 
 use fh_model::{ID_DIGITS, NAMESPACE_MAX_DIGITS, REV_MIN_DIGITS};
 

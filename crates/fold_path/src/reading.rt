@@ -1,6 +1,6 @@
 ghost use Rattle.std.specs.Prelude.{◌≡◌, true, false, Some, IfOk, IsErrOf, IsTrue, MatchOption, codes, drop, length, map, nat_eq};
 ghost use Rattle.std.specs.List.{starts_with};
-ghost use Rattle.fold_path.specs.PathRule.{arg_of, form_of, form_of_parts, is_malformed, is_overlong, path_of, rooted, space};
+ghost use Rattle.fh_model.specs.PathRule.{arg_of, form_of, form_of_parts, is_malformed, is_overlong, path_of, rooted, space};
 
 use crate::fault::PathFault;
 use crate::folding::fold;

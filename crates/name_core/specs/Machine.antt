@@ -1,7 +1,9 @@
 -- What a step that was done means, and what each machine keeps.
-use Rattle.std.specs.Prelude.{◌≡◌, ◌^◌, nat_lt, Bool, true, false, Option, MatchOption}
+use Rattle.std.specs.Prelude.{◌≡◌, ◌^◌, nat_lt, Bool, true, false, Option, None, Some, MatchOption}
+use Rattle.fh_model.specs.declared.paths.Found.{Found}
 use Rattle.fh_model.specs.declared.replies.Reply.{Reply}
 use Rattle.fh_model.specs.declared.state.Namespace.{Namespace}
+use Rattle.fh_model.specs.Resolve.{Look, not_found, found}
 use Rattle.fh_model.specs.State.{State, length_of}
 use Rattle.fh_model.specs.Step.{Stepped}
 
@@ -9,6 +11,11 @@ use Rattle.fh_model.specs.Step.{Stepped}
 pub record Does (stepped : Stepped) (before : State) (next : Option State) (reply : Reply) : Type 0 where
   pub replied : reply ≡ stepped.reply
   pub left : MatchOption next ((stepped.enters ≡ false) × (stepped.state ≡ before)) (λ after. (stepped.enters ≡ true) × (stepped.state ≡ after))
+
+-- what stands there, or nothing
+abbrev pub look_of : Option Found → Look
+look_of None = not_found
+look_of (Some there) = found there
 
 -- a namespace's length can be written into a row
 abbrev pub length_fits : Namespace → Bool

@@ -1,4 +1,5 @@
 ghost use Rattle.std.specs.Prelude.{◌≡◌};
+ghost use Rattle.name_core.specs.declared.faults.LookFault.TheVariants as look_faults;
 ghost use Rattle.name_core.specs.declared.faults.RowsFault.TheVariants as rows_faults;
 
 use fh_model::NoMemory;
@@ -36,5 +37,26 @@ impl<T: Drop> From<AllocFailed<T>> for RowsFault {
 
     fn from(_: AllocFailed<T>) -> Self {
         RowsFault::NoMemory
+    }
+}
+
+/// Why a path led to nothing.
+#[derive(Clone, Copy, Debug, PartialEq, Eq)]
+pub enum LookFault {
+    /// The text is malformed.
+    Malformed,
+
+    /// Nothing stands there, or nothing that the user sees.
+    NotFound,
+
+    /// Memory ran out.
+    NoMemory,
+}
+
+impl From<NoMemory> for LookFault {
+    ghost from_gives = { λ _ fault. fault ≡ look_faults.NoMemory };
+
+    fn from(_: NoMemory) -> Self {
+        LookFault::NoMemory
     }
 }

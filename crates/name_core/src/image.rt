@@ -1,11 +1,12 @@
 ghost use Rattle.std.specs.Prelude.{◌≡◌, ℕ, [], IfOk, Ok, Err, IsErrOf};
 ghost use Rattle.fh_model.specs.Rows.{rows_of, state_of_rows};
-ghost use Rattle.fh_model.specs.State.{opening};
+ghost use Rattle.fh_model.specs.State.{opening, token_user, home_of};
+ghost use Rattle.fh_model.specs.Resolve.{resolve, found, malformed, not_found};
 ghost use Rattle.fh_model.specs.History.{Kept, state_of, next_of, reply_of};
 
-use crate::RowsFault;
 use crate::machine::{Done, Machine};
-use fh_model::{Cmd, Copies, NoMemory, Reply, Row, copy_all};
+use crate::{LookFault, RowsFault};
+use fh_model::{Cmd, Copies, Found, NoMemory, Reply, Row, Text, copy_all};
 use std::alloc::Global;
 use std::marker::Model;
 use std::sync::Arc;
@@ -137,5 +138,28 @@ impl Image {
     {
         let done = self.machine.step(cmd)?;
         Ok(done.reply)
+    }
+    /// What the path of a user leads to, as the user sees it. `Malformed` comes exactly where the text is, and
+    /// `NotFound` where it leads to nothing: for a user that there isn't, each path does.
+    pub fn resolve(&self, user: u64, path: &Text) -> Result<Found, LookFault>
+        ensures found { IfOk result (λ there. resolve (state_of self.now) user path.now ≡ found there) }
+        ensures malformed { IsErrOf result LookFault.Malformed → resolve (state_of self.now) user path.now ≡ malformed }
+        ensures missing { IsErrOf result LookFault.NotFound → resolve (state_of self.now) user path.now ≡ not_found }
+    {
+        self.machine.resolve(user, path)
+    }
+
+    /// The number of the user whose token this is, which takes no memory.
+    pub fn token_user(&self, token: &Text) -> Option<u64>
+        ensures { result ≡ token_user (state_of self.now) token.now }
+    {
+        self.machine.token_user(token)
+    }
+
+    /// The number of the user's home, none exactly where there is no such user. Takes no memory.
+    pub fn home_of(&self, user: u64) -> Option<u64>
+        ensures { result ≡ home_of (state_of self.now) user }
+    {
+        self.machine.home_of(user)
     }
 }

@@ -1,11 +1,13 @@
-ghost use Rattle.std.specs.Prelude.{◌≡◌, ◌∷◌, []};
+//! The keys of names, compared where the names stand.
+ghost use Rattle.std.specs.Prelude.{◌≡◌};
 ghost use Rattle.fh_model.specs.Keys.{key_of, has_key};
-ghost use Rattle.fh_model.specs.State.{is_taken, taken_after};
+ghost use Rattle.fh_model.specs.KeyOrder.{key_cmp, is_under};
 
-use fh_model::{Change, Name};
+use fh_model::Name;
+use std::cmp::Ordering;
 
 /// Whether the names have the key of the other names.
-fn has_key(names: &[Name], key: &[Name]) -> bool
+pub(crate) fn has_key(names: &[Name], key: &[Name]) -> bool
     ensures { result ≡ has_key names.now (key_of key.now) }
 {
     match names {
@@ -22,23 +24,36 @@ fn has_key(names: &[Name], key: &[Name]) -> bool
     }
 }
 
-/// Whether a node stands at the key of these names after the changes.
-pub(crate) fn is_taken(changes: &[Change], key: &[Name]) -> bool
-    ensures { result ≡ is_taken changes.now (key_of key.now) }
+/// The order of the keys of both.
+pub(crate) fn compare(names: &[Name], others: &[Name]) -> Ordering
+    ensures { result ≡ key_cmp (key_of names.now) (key_of others.now) }
 {
-    let mut taken = false;
-    for change in changes {
-        taken = taken_after(taken, key, change);
+    match names {
+        [] => match others {
+            [] => Ordering::Equal,
+            [_, ..] => Ordering::Less,
+        },
+        [name, names @ ..] => match others {
+            [] => Ordering::Greater,
+            [other, others @ ..] => {
+                let order = name.folded.as_bytes().cmp(other.folded.as_bytes());
+                order.then(compare(names, others))
+            }
+        },
     }
-    taken
 }
 
-/// Whether a node stands at the key after one change.
-fn taken_after(before: bool, key: &[Name], change: &Change) -> bool
-    ensures { result ≡ taken_after before (key_of key.now) (change.now ∷ []) }
+/// Whether the key of the base is a proper prefix of the key of the names.
+pub(crate) fn is_under(names: &[Name], base: &[Name]) -> bool
+    ensures { result ≡ is_under (key_of names.now) (key_of base.now) }
 {
-    match change {
-        Change::Put { names, .. } => before || has_key(names.as_slice(), key),
-        Change::Gone { names } => before && !has_key(names.as_slice(), key),
+    match names {
+        [] => false,
+        [name, names @ ..] => match base {
+            [] => true,
+            [first, base @ ..] => {
+                name.folded.as_bytes() == first.folded.as_bytes() && is_under(names, base)
+            }
+        },
     }
 }

@@ -2,18 +2,26 @@
 //!
 //! What an image stands for is the state that it starts from and the list of these commands; its state is their fold
 //! by the step of the machine, never a second truth. The body is the plain one: lists that are copied at each change.
+//! Each namespace keeps the tree that its changes make, so a path is looked up without reading the changes again.
 #![tactic(auto)]
 
 mod faults;
 mod image;
 mod keys;
+mod looks;
 mod machine;
-mod paths;
+mod nodes;
+mod places;
 mod row_rules;
 mod rows;
+mod space;
+mod trees;
+mod writing;
 
-pub use faults::RowsFault;
+pub use faults::{LookFault, RowsFault};
 pub use image::Image;
 
+#[cfg(test)]
+mod path_tests;
 #[cfg(test)]
 mod tests;

@@ -2,31 +2,32 @@
 ghost use Rattle.std.specs.Prelude.{◌≡◌, ◌<◌, ◌^◌, ℕ, false, true, List, IfOk, Ok, Err, IsErrOf, map, option_copied, find, ◌==◌};
 ghost use Rattle.std.specs.List.{list_all, list_any};
 ghost use Rattle.fh_model.specs.Rows.{rows_of, state_of_rows};
-ghost use Rattle.fh_model.specs.State.{opening, user_of, changes_of, next_is_spent, space_is_spent, is_spent, grown};
-ghost use Rattle.fh_model.specs.Step.{step, with_folder, folder_at, make_folder, act_on, refused, refusal_of};
-ghost use Rattle.fh_model.specs.Paths.{names_of};
+ghost use Rattle.fh_model.specs.State.{opening, user_of, home_of, token_user, has_token, tree_in, next_is_spent, space_is_spent, is_spent, grown};
+ghost use Rattle.fh_model.specs.Step.{step, with_folders, with_folder, unless_taken, folder_in, make_folder, act_on, refused, refusal_of, conflict};
+ghost use Rattle.fh_model.specs.Keys.{key_of};
+ghost use Rattle.fh_model.specs.Trees.{item_at};
 ghost use Rattle.name_core.specs.Machine.{Does, length_fits};
 
 use crate::RowsFault;
-use crate::keys::is_taken;
-use crate::paths::names_of;
+use crate::nodes::kind_tag;
+use crate::places::{is_below_file, path_of};
 use crate::row_rules::{counters_in, first_bad};
-use crate::rows::{namespaces_in, put_namespaces, put_users, users_in};
+use crate::rows::{put_namespaces, put_users, spaces_in, users_in};
+use crate::space::Space;
+use crate::trees::item_at;
+use crate::writing::{folders, missed_above, shown_in};
 use fh_model::{
-    Act, Change, Cmd, Copies, Entry, Items, Names, Namespace, Next, NoMemory, Node, Refusal, Reply,
-    Row, SPENT_AT, Text, User, copy_all,
+    Act, Change, Cmd, Copies, Entry, Item, Items, Name, Names, Namespace, Next, NoMemory, Refusal,
+    Reply, Row, SPENT_AT, Text, User, copy_all,
 };
 use std::alloc::Global;
 use std::marker::Model;
-
-/// The number of members of a namespace at which it is spent.
-const MEMBERS_SPENT_AT: usize = 1 << 31;
 
 /// A state of the machine.
 #[derive(Debug, Drop)]
 pub(crate) struct Machine {
     users: Vec<User>,
-    namespaces: Vec<Namespace>,
+    namespaces: Vec<Space>,
     next: Next,
     moment: u64,
 }
@@ -63,13 +64,14 @@ impl Machine {
             token: None,
         })?;
         let mut namespaces = Vec::new(alloc);
-        namespaces.push(Namespace {
+        let home = Namespace {
             number: 1,
             shared: false,
             floor: 0,
             changes: Items::empty(alloc),
             members: Items::empty(alloc),
-        })?;
+        };
+        namespaces.push(Space::new(alloc, home)?)?;
         Ok(Machine {
             users,
             namespaces,
@@ -96,7 +98,7 @@ impl Machine {
             return Err(RowsFault::Bad { row: rows.len() });
         };
         let users = users_in(alloc, rows)?;
-        let namespaces = namespaces_in(alloc, rows)?;
+        let namespaces = spaces_in(alloc, rows)?;
         Ok(Machine {
             users,
             namespaces,
@@ -109,7 +111,7 @@ impl Machine {
     pub(crate) fn rows(&self) -> Result<Vec<Row>, NoMemory>
         ensures { IfOk result (λ rows. rows.items ≡ rows_of self.now) }
     {
-        let mut rows = Vec::new(*self.users.allocator());
+        let mut rows = Vec::new(self.alloc());
         rows.push(Row::Counters {
             rev: self.next.rev,
             id: self.next.id,
@@ -126,8 +128,8 @@ impl Machine {
     pub(crate) fn copy(&self) -> Result<Machine, NoMemory>
         ensures { IfOk result (λ copy. copy ≡ self.now) }
     {
-        let users = copy_all(*self.users.allocator(), &self.users)?;
-        let namespaces = copy_all(*self.users.allocator(), &self.namespaces)?;
+        let users = copy_all(self.alloc(), &self.users)?;
+        let namespaces = copy_all(self.alloc(), &self.namespaces)?;
         Ok(Machine {
             users,
             namespaces,
@@ -143,24 +145,56 @@ impl Machine {
         self.moment
     }
 
-    fn user(&self, number: u64) -> Option<&User>
+    pub(crate) fn alloc(&self) -> Global {
+        *self.users.allocator()
+    }
+
+    pub(crate) fn user(&self, number: u64) -> Option<&User>
         ensures { option_copied result ≡ user_of self.now number }
     {
         self.users.iter().find(|user| user.number == number)
     }
 
-    fn namespace(&self, number: u64) -> Option<&Namespace>
-        ensures { option_copied result ≡ find (λ space. space.number == number) self.now.namespaces }
+    /// The number of the home of a user.
+    pub(crate) fn home_of(&self, user: u64) -> Option<u64>
+        ensures { result ≡ home_of self.now user }
     {
-        self.namespaces.iter().find(|space| space.number == number)
+        match self.user(user) {
+            Some(user) => Some(user.home),
+            None => None,
+        }
     }
 
-    /// The changes of a namespace, none where there is no such one.
-    fn changes(&self, number: u64) -> &[Change]
-        ensures { result.now ≡ changes_of self.now number }
+    fn user_with(&self, token: &Text) -> Option<&User>
+        ensures { option_copied result ≡ find (has_token token.now) self.now.users }
     {
-        match self.namespace(number) {
-            Some(space) => space.changes.as_slice(),
+        self.users.iter().find(|user| has_token(user, token))
+    }
+
+    /// The number of the user whose token this is.
+    pub(crate) fn token_user(&self, token: &Text) -> Option<u64>
+        ensures { result ≡ token_user self.now token.now }
+    {
+        match self.user_with(token) {
+            Some(user) => Some(user.number),
+            None => None,
+        }
+    }
+
+    fn space(&self, number: u64) -> Option<&Space>
+        ensures { option_copied result ≡ find (λ space. space.number == number) self.now.namespaces }
+    {
+        self.namespaces
+            .iter()
+            .find(|space| space.namespace().number == number)
+    }
+
+    /// The tree of a namespace, empty where there is no such one.
+    pub(crate) fn tree(&self, number: u64) -> &[Item]
+        ensures { result.now ≡ tree_in self.now number }
+    {
+        match self.space(number) {
+            Some(space) => space.tree(),
             None => &[],
         }
     }
@@ -172,20 +206,27 @@ impl Machine {
         next_is_spent(&self.next) || any_is_spent(&self.namespaces)
     }
 
-    /// The machine with one more folder in a namespace.
-    fn with_folder(&self, moment: u64, space: u64, names: Names) -> Result<Done, NoMemory>
+    /// The machine with folders at the names that are missed and then at the names.
+    fn with_folders(
+        &self,
+        moment: u64,
+        home: u64,
+        number: u64,
+        mut missed: Vec<Names>,
+        names: Names,
+    ) -> Result<Done, NoMemory>
         requires id { self.now.next.id < 2 ^ 62 }
         requires lengths { list_any space_is_spent self.now.namespaces ≡ false }
-        ensures { IfOk result (λ done. Does (with_folder self.now moment space names) self.now done.next done.reply) }
+        ensures { IfOk result (λ done. Does (with_folders self.now moment home number missed.items names) self.now done.next done.reply) }
     {
-        let id = self.next.id;
-        let told = names.copy()?;
-        let node = Node::Folder { id };
-        let change = Change::Put { names, node };
-        let alloc = *self.users.allocator();
+        let alloc = self.alloc();
+        let told = self.names_in_view(home, number, names.as_slice())?;
+        let id = self.next.id + missed.len() as u64;
+        missed.push(names)?;
+        let changes = folders(alloc, self.next.id, &missed)?;
         let next = Machine {
             users: copy_all(alloc, &self.users)?,
-            namespaces: grow_all(alloc, &self.namespaces, space, &change)?,
+            namespaces: grow_all(alloc, &self.namespaces, number, &changes)?,
             next: Next {
                 id: id + 1,
                 ..self.next
@@ -198,28 +239,76 @@ impl Machine {
         })
     }
 
-    fn folder_at(&self, moment: u64, space: u64, names: Names) -> Result<Done, NoMemory>
+    /// The machine with a folder at the names and at those above that are missed.
+    fn with_folder(
+        &self,
+        moment: u64,
+        home: u64,
+        number: u64,
+        names: Names,
+    ) -> Result<Done, NoMemory>
         requires id { self.now.next.id < 2 ^ 62 }
         requires lengths { list_any space_is_spent self.now.namespaces ≡ false }
-        ensures { IfOk result (λ done. Does (folder_at self.now moment space names) self.now done.next done.reply) }
+        ensures { IfOk result (λ done. Does (with_folder self.now moment home number names) self.now done.next done.reply) }
     {
-        if is_taken(self.changes(space), names.as_slice()) {
-            return self.refuse(&["path", "conflict", "folder"]);
+        let missed = missed_above(self.alloc(), self.tree(number), names.as_slice())?;
+        self.with_folders(moment, home, number, missed, names)
+    }
+
+    fn unless_taken(
+        &self,
+        moment: u64,
+        home: u64,
+        number: u64,
+        names: &[Name],
+    ) -> Result<Done, NoMemory>
+        requires id { self.now.next.id < 2 ^ 62 }
+        requires lengths { list_any space_is_spent self.now.namespaces ≡ false }
+        ensures { IfOk result (λ done. Does (unless_taken self.now moment home number names.now (item_at (tree_in self.now number) (key_of names.now))) self.now done.next done.reply) }
+    {
+        match item_at(self.tree(number), names) {
+            Some(item) => self.conflict(kind_tag(&item.node)),
+            None => {
+                let names = shown_in(self.alloc(), self.tree(number), names)?;
+                self.with_folder(moment, home, number, names)
+            }
         }
-        self.with_folder(moment, space, names)
+    }
+
+    /// The machine with a folder at names from the root of a namespace.
+    fn folder_in(
+        &self,
+        moment: u64,
+        home: u64,
+        number: u64,
+        names: &[Name],
+    ) -> Result<Done, NoMemory>
+        requires id { self.now.next.id < 2 ^ 62 }
+        requires lengths { list_any space_is_spent self.now.namespaces ≡ false }
+        ensures { IfOk result (λ done. Does (folder_in self.now moment home number names.now) self.now done.next done.reply) }
+    {
+        match names {
+            [] => self.conflict("folder"),
+            [_, ..] => {
+                if is_below_file(self.tree(number), names) {
+                    return self.conflict("file_ancestor");
+                }
+                self.unless_taken(moment, home, number, names)
+            }
+        }
     }
 
     fn make_folder(&self, moment: u64, user: u64, path: &Text) -> Result<Done, NoMemory>
         requires id { self.now.next.id < 2 ^ 62 }
         requires lengths { list_any space_is_spent self.now.namespaces ≡ false }
-        ensures { IfOk result (λ done. Does (make_folder self.now moment (user_of self.now user) (names_of path.now)) self.now done.next done.reply) }
+        ensures { IfOk result (λ done. Does (make_folder self.now moment (user_of self.now user) path.now) self.now done.next done.reply) }
     {
-        let names = names_of(*self.users.allocator(), path)?;
         let Some(user) = self.user(user) else {
             return self.refuse(&["user", "not_found"]);
         };
-        match names {
-            Some(names) => self.folder_at(moment, user.home, names),
+        let arg = path_of(self.alloc(), path)?;
+        match self.write_place(user.home, &arg)? {
+            Some(place) => { self.folder_in(moment, user.home, place.ns, place.names.as_slice()) }
             None => self.refuse(&["path", "malformed_path"]),
         }
     }
@@ -237,11 +326,18 @@ impl Machine {
         }
     }
 
+    /// The refusal of a place that can't be written.
+    fn conflict(&self, tag: &str) -> Result<Done, NoMemory>
+        ensures { IfOk result (λ done. Does (conflict self.now tag.now) self.now done.next done.reply) }
+    {
+        self.refuse(&["path", "conflict", tag])
+    }
+
     /// A refusal with these tags, which changes nothing.
     fn refuse(&self, tags: &[&str]) -> Result<Done, NoMemory>
         ensures { IfOk result (λ done. Does (refused self.now (map (λ tag. tag.now) tags.now)) self.now done.next done.reply) }
     {
-        let refusal = refusal_of(*self.users.allocator(), tags)?;
+        let refusal = refusal_of(self.alloc(), tags)?;
         Ok(Done {
             next: None,
             reply: Reply::Refused(refusal),
@@ -271,41 +367,33 @@ fn next_is_spent(next: &Next) -> bool
             || (SPENT_AT <= next.session || (SPENT_AT <= next.user || SPENT_AT <= next.namespace)))
 }
 
-fn any_is_spent(spaces: &[Namespace]) -> bool
+fn any_is_spent(spaces: &[Space]) -> bool
     ensures { result ≡ list_any space_is_spent spaces.now }
 {
-    spaces.iter().any(|space| space_is_spent(space))
+    spaces.iter().any(|space| space.is_spent())
 }
 
-fn space_is_spent(space: &Namespace) -> bool
-    ensures { result ≡ space_is_spent space.now }
+fn has_token(user: &User, token: &Text) -> bool
+    ensures { result ≡ has_token token.now user.now }
 {
-    let length = (space.floor as u128) + (space.changes.as_slice().len() as u128);
-    (SPENT_AT as u128) <= length || MEMBERS_SPENT_AT <= space.members.as_slice().len()
+    match &user.token {
+        None => false,
+        Some(text) => text.as_bytes() == token.as_bytes(),
+    }
 }
 
-/// The namespaces, where the one with this number has one more change.
+/// The namespaces, where the one with this number has more changes.
 fn grow_all(
     alloc: Global,
-    spaces: &[Namespace],
+    spaces: &[Space],
     number: u64,
-    change: &Change,
-) -> Result<Vec<Namespace>, NoMemory>
-    ensures { IfOk result (λ spaces_new. spaces_new.items ≡ map (grown number change.now) spaces.now) }
+    changes: &[Change],
+) -> Result<Vec<Space>, NoMemory>
+    ensures { IfOk result (λ spaces_new. spaces_new.items ≡ map (grown number changes.now) spaces.now) }
 {
     let mut grown = Vec::new(alloc);
     for space in spaces {
-        grown.push(grow(space, number, change)?)?;
+        grown.push(space.grown(number, changes)?)?;
     }
     Ok(grown)
-}
-
-fn grow(space: &Namespace, number: u64, change: &Change) -> Result<Namespace, NoMemory>
-    ensures { IfOk result (λ copy. copy ≡ grown number change.now space.now) }
-{
-    let mut copy = space.copy()?;
-    if copy.number == number {
-        copy.changes.push(change.copy()?)?;
-    }
-    Ok(copy)
 }

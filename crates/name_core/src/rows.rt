@@ -5,6 +5,7 @@ ghost use Rattle.fh_model.specs.Rows.{user_row, namespace_row, users_in, namespa
 ghost use Rattle.fh_model.specs.State.{length_of};
 ghost use Rattle.name_core.specs.Machine.{length_fits};
 
+use crate::space::Space;
 use fh_model::{Copies, Items, Namespace, NoMemory, Row, User};
 use std::alloc::Global;
 
@@ -34,12 +35,12 @@ fn user_row(user: &User) -> Result<Row, NoMemory>
 }
 
 /// Puts a row for each namespace at the end.
-pub(crate) fn put_namespaces(rows: &mut Vec<Row>, spaces: &[Namespace]) -> Result<(), NoMemory>
+pub(crate) fn put_namespaces(rows: &mut Vec<Row>, spaces: &[Space]) -> Result<(), NoMemory>
     requires { list_all length_fits spaces.now ≡ true }
     ensures { OnOk result (rows.new.items ≡ rows.old.items ++ map namespace_row spaces.now) }
 {
     for space in spaces {
-        rows.push(namespace_row(space)?)?;
+        rows.push(namespace_row(space.namespace())?)?;
     }
     Ok(())
 }
@@ -92,18 +93,18 @@ fn put_user(users: &mut Vec<User>, row: &Row) -> Result<(), NoMemory>
 }
 
 /// The namespaces whose rows stand among these.
-pub(crate) fn namespaces_in(alloc: Global, rows: &[Row]) -> Result<Vec<Namespace>, NoMemory>
+pub(crate) fn spaces_in(alloc: Global, rows: &[Row]) -> Result<Vec<Space>, NoMemory>
     ensures rows { IfOk result (λ spaces. spaces.items ≡ namespaces_in rows.now) }
     ensures lengths { IfOk result (λ spaces. list_all length_fits spaces.items ≡ true) }
 {
     let mut spaces = Vec::new(alloc);
     for row in rows {
-        put_namespace(alloc, &mut spaces, row)?;
+        put_space(alloc, &mut spaces, row)?;
     }
     Ok(spaces)
 }
 
-fn put_namespace(alloc: Global, spaces: &mut Vec<Namespace>, row: &Row) -> Result<(), NoMemory>
+fn put_space(alloc: Global, spaces: &mut Vec<Space>, row: &Row) -> Result<(), NoMemory>
     ensures rows { OnOk result (spaces.new.items ≡ spaces.old.items ++ namespaces_in (row.now ∷ [])) }
     ensures lengths { list_all length_fits spaces.old.items ≡ true → list_all length_fits spaces.new.items ≡ true }
 {
@@ -116,13 +117,14 @@ fn put_namespace(alloc: Global, spaces: &mut Vec<Namespace>, row: &Row) -> Resul
     } = row
     {
         let members = members.copy()?;
-        spaces.push(Namespace {
+        let space = Namespace {
             number: *number,
             shared: *shared,
             floor: *floor,
             changes: Items::empty(alloc),
             members,
-        })?;
+        };
+        spaces.push(Space::new(alloc, space)?)?;
     }
     Ok(())
 }

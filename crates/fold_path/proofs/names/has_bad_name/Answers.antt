@@ -2,7 +2,7 @@ use Rattle.std.proofs.Common.{◌≡◌, Bool, List, [], ◌∷◌, ◌||◌, ma
 use Rattle.std.proofs.lemmas.Iterator.{YieldsList-from_slice}
 use Rattle.std.proofs.lemmas.Iterator.Search.{any_from_yields_List}
 use Rattle.std.specs.List.{list_any}
-use Rattle.fold_path.specs.PathRule.{is_bad_name}
+use Rattle.fh_model.specs.PathRule.{is_bad_name}
 use Rattle.fold_path.proofs.names.has_bad_name.Goals as goal
 
 list_any-map : {A B : Type 0} (test : B → Bool) (h : A → B) (items : List A) → list_any test (map h items) ≡ list_any (λ item. test (h item)) items

@@ -1,5 +1,5 @@
 use Rattle.std.proofs.Common.{◌≡◌, map, take}
-use Rattle.fold_path.specs.PathRule.{name_of}
+use Rattle.fh_model.specs.PathRule.{name_of}
 use Rattle.fold_path.proofs.names.names_of.Given as goal
 
 abbrev pub invariant-loop-name : goal.invariant-loop-name

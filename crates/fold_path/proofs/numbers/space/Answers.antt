@@ -7,7 +7,7 @@ use Rattle.std.specs.Result.{result_ok}
 use Rattle.std.specs.Str.Parse.{digits_value}
 use Rattle.std.specs.declared.result.Result.TheVariants.{Ok}
 use Rattle.fold_path.proofs.Numerals.{reads_decimal}
-use Rattle.fold_path.specs.PathRule.{is_bad_space}
+use Rattle.fh_model.specs.PathRule.{is_bad_space}
 use Rattle.fold_path.proofs.numbers.space.Goals as goal
 
 given : (bad : Bool) (r : Option ℕ) (n : ℕ) → bad ≡ false → r ≡ Some n → MatchOption r (bad ≡ true) (λ number. (bad ≡ false) × (number ≡ n))

@@ -10,7 +10,7 @@ use Rattle.fh_model.specs.declared.limits.TheConstants.{ID_DIGITS, NAME_MAX_BYTE
 use Rattle.fh_model.specs.declared.names.Name.{Name}
 use Rattle.fh_model.specs.declared.paths.PathArg.{PathArg}
 use Rattle.fh_model.specs.declared.paths.PathArg.TheVariants.{Names, Id, Rev, Ns}
-use Rattle.fold_path.specs.Folding.{folded}
+use Rattle.fh_model.specs.Folding.{folded}
 
 pub data Form : Type 0 where
   -- names, each behind a slash; the root has none

@@ -1,0 +1,78 @@
+//! What a user's path leads to.
+ghost use Rattle.std.specs.Prelude.{◌≡◌, [], IfOk, IsErrOf, Some};
+ghost use Rattle.fh_model.specs.Places.{place_of};
+ghost use Rattle.fh_model.specs.Resolve.{look_in, look_at, look_for, resolve, malformed, not_found, found};
+ghost use Rattle.fh_model.specs.State.{user_of};
+ghost use Rattle.name_core.specs.Machine.{look_of};
+
+use crate::LookFault;
+use crate::machine::Machine;
+use crate::places::{is_below_file, path_of};
+use crate::trees::item_at;
+use fh_model::{Copies, Found, Items, Name, NoMemory, PathArg, Place, Text};
+
+impl Machine {
+    /// The root of a namespace, which is no node.
+    fn root(&self, home: u64, number: u64) -> Result<Found, NoMemory>
+        ensures { IfOk result (λ there. found there ≡ look_in self.now home number []) }
+    {
+        Ok(Found {
+            place: Place {
+                ns: number,
+                names: Items::empty(self.alloc()),
+            },
+            node: None,
+            names: self.names_in_view(home, number, &[])?,
+        })
+    }
+
+    fn look_in(&self, home: u64, number: u64, names: &[Name]) -> Result<Option<Found>, NoMemory>
+        ensures { IfOk result (λ there. look_of there ≡ look_in self.now home number names.now) }
+    {
+        if names.is_empty() {
+            return Ok(Some(self.root(home, number)?));
+        }
+        let tree = self.tree(number);
+        if is_below_file(tree, names) {
+            return Ok(None);
+        }
+        let Some(item) = item_at(tree, names) else {
+            return Ok(None);
+        };
+        Ok(Some(Found {
+            place: Place {
+                ns: number,
+                names: item.names.copy()?,
+            },
+            node: Some(item.node.copy()?),
+            names: self.names_in_view(home, number, item.names.as_slice())?,
+        }))
+    }
+
+    fn look_for(&self, home: u64, arg: &PathArg) -> Result<Option<Found>, NoMemory>
+        ensures { IfOk result (λ there. look_of there ≡ look_at self.now home (place_of self.now home arg.now)) }
+    {
+        match self.place_of(home, arg)? {
+            None => Ok(None),
+            Some(place) => self.look_in(home, place.ns, place.names.as_slice()),
+        }
+    }
+
+    /// What the path leads to.
+    pub(crate) fn resolve(&self, user: u64, path: &Text) -> Result<Found, LookFault>
+        ensures found { IfOk result (λ there. resolve self.now user path.now ≡ found there) }
+        ensures malformed { IsErrOf result LookFault.Malformed → resolve self.now user path.now ≡ malformed }
+        ensures missing { IsErrOf result LookFault.NotFound → resolve self.now user path.now ≡ not_found }
+    {
+        let Some(arg) = path_of(self.alloc(), path)? else {
+            return Err(LookFault::Malformed);
+        };
+        let Some(user) = self.user(user) else {
+            return Err(LookFault::NotFound);
+        };
+        match self.look_for(user.home, &arg)? {
+            Some(there) => Ok(there),
+            None => Err(LookFault::NotFound),
+        }
+    }
+}

@@ -1,0 +1,209 @@
+use crate::{Image, LookFault};
+use fh_model::{Act, Cmd, Entry, Found, Members, Name, Node, Reply, Row, Text};
+use std::test::*;
+
+/// A path that a folder is made at, and the reply: the new id with the shown names, or the tags of the refusal.
+const MADE: [(&str, &str); 21] = [
+    ("/straße", "1/straße"),
+    ("/STRASSE", "path.conflict.folder."),
+    ("/Strasse/B/c", "3/straße/B/c"),
+    ("/strasse/b/C/D", "4/straße/B/c/D"),
+    ("ns:1/x", "5/x"),
+    ("/p/q/r/s", "9/p/q/r/s"),
+    ("/p/Q/T", "10/p/q/T"),
+    ("id:0000000000000001", "path.conflict.folder."),
+    ("id:000000000000000a", "path.conflict.folder."),
+    ("ns:1", "path.conflict.folder."),
+    ("ns:2/x", "path.malformed_path."),
+    ("", "path.malformed_path."),
+    ("/", "path.malformed_path."),
+    ("x", "path.malformed_path."),
+    ("/x/", "path.malformed_path."),
+    ("/x/../y", "path.malformed_path."),
+    ("id:", "path.malformed_path."),
+    ("id:000000000000000A", "path.malformed_path."),
+    ("id:0000000000000011", "path.malformed_path."),
+    ("rev:0000000000000001", "path.malformed_path."),
+    ("ns:", "path.malformed_path."),
+];
+
+/// A path and what it leads to after these: the id with the shown and the folded names, or the fault.
+const FOUND: [(&str, &str); 19] = [
+    ("/STRASSE", "1/straße/strasse"),
+    ("/STRASSE/b", "2/straße/B/strasse/b"),
+    ("id:0000000000000002", "2/straße/B/strasse/b"),
+    ("ns:1/P/q", "7/p/q/p/q"),
+    ("id:0000000000000006", "6/p/p"),
+    ("/p/q/r", "8/p/q/r/p/q/r"),
+    ("", "root"),
+    ("ns:1", "root"),
+    ("/y", "not found"),
+    ("/x/y", "not found"),
+    ("ns:2", "not found"),
+    ("ns:2/x", "not found"),
+    ("id:0000000000000000", "not found"),
+    ("id:0000000000000001/x", "not found"),
+    ("rev:0000000000000001", "not found"),
+    ("rev:00000001", "malformed"),
+    ("/x/", "malformed"),
+    ("ns:0000000000000000001/x", "malformed"),
+    ("ids", "malformed"),
+];
+
+fn text(rt: HostRuntime, text: &str) -> Result<Text, Fail> {
+    Ok(Text::new(String::from_str(rt.alloc(), text)?))
+}
+
+fn make(rt: HostRuntime, user: u64, path: &str) -> Result<Cmd, Fail> {
+    let act = Act::MakeFolder {
+        user,
+        path: text(rt, path)?,
+        rename: false,
+    };
+    Ok(Cmd {
+        seat: 1,
+        at: 7,
+        act,
+    })
+}
+
+fn put_shown(line: &mut String, names: &[Name]) -> Result<(), Fail> {
+    for name in names {
+        line.push_str("/")?;
+        line.push_str(name.shown.as_str())?;
+    }
+    Ok(())
+}
+
+fn put_folded(line: &mut String, names: &[Name]) -> Result<(), Fail> {
+    for name in names {
+        line.push_str("/")?;
+        line.push_str(name.folded.as_str())?;
+    }
+    Ok(())
+}
+
+fn put_tags(line: &mut String, tags: &[Text]) -> Result<(), Fail> {
+    for tag in tags {
+        line.push_str(tag.as_str())?;
+        line.push_str(".")?;
+    }
+    Ok(())
+}
+
+fn replied(rt: HostRuntime, reply: &Reply) -> Result<String, Fail> {
+    match reply {
+        Reply::Entry(Entry::Folder { names, id }) => {
+            let mut line = format!(in rt.alloc(); "{id}")?;
+            put_shown(&mut line, names.as_slice())?;
+            Ok(line)
+        }
+        Reply::Refused(refusal) => {
+            let mut line = String::new(rt.alloc());
+            put_tags(&mut line, refusal.tags.as_slice())?;
+            Ok(line)
+        }
+    }
+}
+
+fn shown(rt: HostRuntime, there: &Found) -> Result<String, Fail> {
+    match &there.node {
+        Some(Node::Folder { id }) => {
+            let mut line = format!(in rt.alloc(); "{id}")?;
+            put_shown(&mut line, there.names.as_slice())?;
+            put_folded(&mut line, there.place.names.as_slice())?;
+            Ok(line)
+        }
+        Some(Node::Mount { .. }) => Ok(String::from_str(rt.alloc(), "mount")?),
+        None => Ok(String::from_str(rt.alloc(), "root")?),
+    }
+}
+
+fn looked(rt: HostRuntime, image: &Image, user: u64, path: &str) -> Result<String, Fail> {
+    match image.resolve(user, &text(rt, path)?) {
+        Ok(there) => shown(rt, &there),
+        Err(LookFault::Malformed) => Ok(String::from_str(rt.alloc(), "malformed")?),
+        Err(LookFault::NotFound) => Ok(String::from_str(rt.alloc(), "not found")?),
+        Err(LookFault::NoMemory) => Err("out of memory".into()),
+    }
+}
+
+/// The image after the folders of the first table. It fails with the first path that is answered otherwise.
+fn made(rt: HostRuntime) -> Result<Image, Fail> {
+    let mut image = Image::empty(rt.alloc())?;
+    for (path, want) in &MADE {
+        let (next, reply) = image.apply(&make(rt, 1, path)?)?;
+        if replied(rt, &reply)?.as_str() != *want {
+            return Err((*path).into());
+        }
+        image = next;
+    }
+    Ok(image)
+}
+
+fn first_odd_look(rt: HostRuntime, image: &Image) -> Result<Option<&'static str>, Fail> {
+    for (path, want) in &FOUND {
+        if looked(rt, image, 1, path)?.as_str() != *want {
+            return Ok(Some(*path));
+        }
+    }
+    Ok(None)
+}
+
+#[test]
+fn paths_lead_to_one_place_however_they_are_cased(rt: HostRuntime) -> Result<(), Fail> {
+    let image = made(rt)?;
+    assert!(rt; image.history().len() == 6);
+    assert!(rt; first_odd_look(rt, &image)? == None);
+    Ok(())
+}
+
+#[test]
+fn an_unknown_user_finds_nothing(rt: HostRuntime) -> Result<(), Fail> {
+    let image = Image::empty(rt.alloc())?;
+    assert!(rt; looked(rt, &image, 2, "")?.as_str() == "not found");
+    assert!(rt; looked(rt, &image, 2, "/x/")?.as_str() == "malformed");
+    let reply = image.settle(&make(rt, 2, "/x/")?)?;
+    assert!(rt; replied(rt, &reply)?.as_str() == "user.not_found.");
+    Ok(())
+}
+
+fn space(rt: HostRuntime, number: u64) -> Row {
+    Row::Namespace {
+        number,
+        shared: false,
+        floor: 0,
+        length: 0,
+        members: Members::empty(rt.alloc()),
+    }
+}
+
+#[test]
+fn a_token_is_of_one_user_as_a_whole(rt: HostRuntime) -> Result<(), Fail> {
+    let counters = Row::Counters {
+        rev: 1,
+        id: 1,
+        session: 1,
+        user: 3,
+        namespace: 3,
+        moment: 0,
+    };
+    let first = Row::User {
+        number: 1,
+        home: 1,
+        token: None,
+    };
+    let second = Row::User {
+        number: 2,
+        home: 2,
+        token: Some(text(rt, "abcdefgh")?),
+    };
+    let rows = vec![in rt.alloc(); counters, first, second, space(rt, 1), space(rt, 2)]?;
+    let image = Image::from_rows(rt.alloc(), &rows)?;
+    assert!(rt; image.token_user(&text(rt, "abcdefgh")?) == Some(2));
+    assert!(rt; image.token_user(&text(rt, "abcdefg")?) == None);
+    assert!(rt; image.token_user(&text(rt, "abcdefghi")?) == None);
+    assert!(rt; image.home_of(2) == Some(2));
+    assert!(rt; image.home_of(3) == None);
+    Ok(())
+}
