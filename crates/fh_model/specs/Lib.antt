@@ -1,4 +1,5 @@
 pub mod Connection
+pub mod Content
 pub mod FolderRequests
 pub mod History
 pub mod Json
