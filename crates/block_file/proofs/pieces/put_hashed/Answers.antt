@@ -1,5 +1,4 @@
 use Rattle.std.proofs.Common.{refl}
-use Rattle.std.proofs.lemmas.Result.{err_from_is_err_and}
 use Rattle.block_file.proofs.StoredLemmas.{stored_now, stored_stays}
 use Rattle.block_file.proofs.pieces.put_hashed.Goals as goal
 
