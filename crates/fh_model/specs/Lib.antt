@@ -1,6 +1,7 @@
 pub mod Connection
-pub mod Folding
+pub mod Content
 pub mod FolderRequests
+pub mod Folding
 pub mod History
 pub mod Json
 pub mod KeyOrder

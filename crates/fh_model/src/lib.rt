@@ -12,6 +12,7 @@ mod limits;
 mod memory;
 mod names;
 mod paths;
+mod pieces;
 mod replies;
 mod rows;
 mod state;
@@ -22,12 +23,13 @@ pub use commands::{Act, Cmd};
 pub use items::{Copies, Items, copy_all};
 pub use keys::Key;
 pub use limits::{
-    ID_DIGITS, LAST_SECOND, NAME_MAX_BYTES, NAMES_MAX, NAMESPACE_MAX_DIGITS, PATH_MAX_BYTES,
-    REQUESTS_MAX, REV_MIN_DIGITS, SPENT_AT, TOKEN_MAX_BYTES, TOKEN_MIN_BYTES,
+    BLOCK_BYTES, ID_DIGITS, LAST_SECOND, NAME_MAX_BYTES, NAMES_MAX, NAMESPACE_MAX_DIGITS,
+    PATH_MAX_BYTES, REQUESTS_MAX, REV_MIN_DIGITS, SPENT_AT, TOKEN_MAX_BYTES, TOKEN_MIN_BYTES,
 };
 pub use memory::NoMemory;
 pub use names::{Name, Names, Tags};
 pub use paths::{Found, PathArg, Place};
+pub use pieces::{Bytes32, Piece, Pieces};
 pub use replies::{Entry, Refusal, Reply};
 pub use rows::{Members, Row};
 pub use state::{Namespace, Next, User};

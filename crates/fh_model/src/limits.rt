@@ -30,3 +30,6 @@ pub const REQUESTS_MAX: u64 = 1_000_000;
 
 /// The number at which a counter or the length of a namespace is spent: each act is refused from there on.
 pub const SPENT_AT: u64 = 1 << 62;
+
+/// The bytes of a whole block. Each block of a file has so many, but the last may have fewer.
+pub const BLOCK_BYTES: usize = 4_194_304;

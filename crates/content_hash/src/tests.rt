@@ -1,0 +1,154 @@
+use crate::{Hasher, of_digests};
+use fh_model::{BLOCK_BYTES, Bytes32};
+use std::alloc::{AllocError, Global};
+use std::test::*;
+
+/// The digest of no bytes.
+const NOTHING: &str = "e3b0c44298fc1c149afbf4c8996fb92427ae41e4649b934ca495991b7852b855";
+
+/// A digest as 64 hex digits.
+fn spelled(alloc: Global, digest: &Bytes32) -> Result<String, AllocError> {
+    let mut text = String::new(alloc);
+    for byte in &digest.bytes {
+        write!(text, "{byte:02x}")?;
+    }
+    Ok(text)
+}
+
+/// So many bytes, each its place modulo 251.
+fn counted(alloc: Global, len: usize) -> Result<Vec<u8>, AllocError> {
+    let mut bytes = vec![in alloc; 0u8; len]?;
+    for (place, byte) in bytes.iter_mut().enumerate() {
+        *byte = (place % 251) as u8;
+    }
+    Ok(bytes)
+}
+
+/// The content hash, with the bytes taken in by pieces of this size at most.
+fn hash_by_pieces(bytes: &[u8], size: usize) -> Bytes32 {
+    let mut hasher = Hasher::new();
+    for piece in bytes.chunks(size.max(1)) {
+        hasher.update(piece);
+    }
+    hasher.digest()
+}
+
+/// The digests of the blocks, the last of which may be shorter.
+fn block_digests(alloc: Global, bytes: &[u8]) -> Result<Vec<Bytes32>, AllocError> {
+    let mut hasher = Hasher::new();
+    let mut digests = Vec::new(alloc);
+    let mut rest = bytes;
+    while !rest.is_empty() {
+        let filled = hasher.fill(rest);
+        if let Some(digest) = filled.digest {
+            digests.push(digest)?;
+        }
+        rest = &rest[filled.taken..];
+    }
+    if let Some(digest) = hasher.last_digest() {
+        digests.push(digest)?;
+    }
+    Ok(digests)
+}
+
+#[test]
+fn published_digests_of_sha_256_are_those_of_a_block(rt: HostRuntime) -> Result<(), Fail> {
+    let alloc = rt.alloc();
+    let million = vec![in alloc; b'a'; 1_000_000]?;
+    for (message, want) in [
+        (
+            b"abc".as_slice(),
+            "ba7816bf8f01cfea414140de5dae2223b00361a396177a9cb410ff61f20015ad",
+        ),
+        (
+            b"abcdbcdecdefdefgefghfghighijhijkijkljklmklmnlmnomnopnopq",
+            "248d6a61d20638b8e5c026930c3e6039a33ce45964ff2167f6ecedd419db06c1",
+        ),
+        (
+            b"abcdefghbcdefghicdefghijdefghijkefghijklfghijklmghijklmnhijklmnoijklmnopjklmnopqklmnopqrlmnopqrsmnopqrstnopqrstu",
+            "cf5b16a778af8380036ce59e7b0492370b249b11e8f07a51afac45037afee9d1",
+        ),
+        (
+            million.as_slice(),
+            "cdc76e5c9914fb9281a1c7e284d73e67f1809a48a497200e046d39ccc7112cd0",
+        ),
+    ] {
+        let digests = block_digests(alloc, message)?;
+        assert!(rt; digests.len() == 1);
+        assert_eq!(rt; spelled(alloc, &digests[0])?.as_str(), want);
+    }
+    assert_eq!(rt; block_digests(alloc, b"")?.len(), 0);
+    assert_eq!(rt; spelled(alloc, &of_digests(&[]))?.as_str(), NOTHING);
+    Ok(())
+}
+
+#[test]
+fn contents_about_the_size_of_a_block_have_their_hashes(rt: HostRuntime) -> Result<(), Fail> {
+    let alloc = rt.alloc();
+    let zeros = vec![in alloc; 0u8; 2 * BLOCK_BYTES]?;
+    let counted = counted(alloc, 2 * BLOCK_BYTES)?;
+    for (len, blocks, of_zeros, of_counted) in [
+        (0, 0, NOTHING, NOTHING),
+        (
+            1,
+            1,
+            "1406e05881e299367766d313e26c05564ec91bf721d31726bd6e46e60689539a",
+            "1406e05881e299367766d313e26c05564ec91bf721d31726bd6e46e60689539a",
+        ),
+        (
+            4_194_303,
+            1,
+            "839e2d868a885f260431d186466f0f3c189ee0eee5cc444b54e717740ad7f1c3",
+            "e1d05b9adf4293b7fec11b099ce74116fc06dfa733a9833be9166ab4c769da43",
+        ),
+        (
+            4_194_304,
+            1,
+            "c7e946d101855255d919ef0c70718633adf77d3dfb3adeeecf5d0cb4e951be58",
+            "b9654428408015906b44a00935b70af33830aa344b780b0eabd535a133150d04",
+        ),
+        (
+            4_194_305,
+            2,
+            "14a4d47f23a30177885d9820122f17d2d3a55fe63f7f5c27b95f689e0b2accd6",
+            "4a6cc0a344febaa07772e7c974834b2fb1d24594d4ba15f27c97a54699709f44",
+        ),
+        (
+            8_388_608,
+            2,
+            "03ae066c707c588592d9e27aa2444ca98423e0999024f1ceaa11a153790b37de",
+            "b76a633d9733b991a976dba723df6940bfaf789390a929fe8f68fd1b4705c8c1",
+        ),
+    ] {
+        for (bytes, want) in [(&zeros, of_zeros), (&counted, of_counted)] {
+            let Some(content) = bytes.get(..len) else {
+                return Err("a content is too short".into());
+            };
+            for size in [usize::MAX, 1_000_003, 65_536] {
+                let hash = hash_by_pieces(content, size);
+                assert_eq!(rt; spelled(alloc, &hash)?.as_str(), want, "{len} by {size}");
+            }
+            let digests = block_digests(alloc, content)?;
+            assert_eq!(rt; digests.len(), blocks, "{len}");
+            assert_eq!(rt;
+                spelled(alloc, &of_digests(&digests))?.as_str(),
+                want,
+                "{len}"
+            );
+        }
+    }
+    Ok(())
+}
+
+#[test]
+fn hello_has_its_hash(rt: HostRuntime) -> Result<(), Fail> {
+    let alloc = rt.alloc();
+    for size in 1..6 {
+        let hash = hash_by_pieces(b"hello", size);
+        assert_eq!(rt;
+            spelled(alloc, &hash)?.as_str(),
+            "9595c9df90075148eb06860365df33584b75bff782a510c6cd4883a419833d50"
+        );
+    }
+    Ok(())
+}
