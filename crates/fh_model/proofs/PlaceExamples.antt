@@ -35,11 +35,16 @@ abbrev s : State
 s = record {
   users = record { number = 1; home = 1; token = None } ∷ [];
   namespaces =
-    record { number = 1; shared = false; floor = 0; members = [];
-      changes = Put (m ∷ []) (Folder 1) ∷ Put (m ∷ shared ∷ []) (Mount 2 2) ∷ [] }
-    ∷ record { number = 2; shared = true; floor = 0; members = 1 ∷ []; changes = Put (doc ∷ []) (Folder 3) ∷ [] }
-    ∷ record { number = 3; shared = true; floor = 0; members = 1 ∷ []; changes = Put (doc ∷ []) (Folder 4) ∷ [] }
-    ∷ [];
+      record {
+        number = 1;
+        shared = false;
+        floor = 0;
+        members = [];
+        changes = Put (m ∷ []) (Folder 1) ∷ Put (m ∷ shared ∷ []) (Mount 2 2) ∷ [];
+      }
+      ∷ record { number = 2; shared = true; floor = 0; members = 1 ∷ []; changes = Put (doc ∷ []) (Folder 3) ∷ [] }
+      ∷ record { number = 3; shared = true; floor = 0; members = 1 ∷ []; changes = Put (doc ∷ []) (Folder 4) ∷ [] }
+      ∷ [];
   next = record { rev = 1; id = 5; session = 1; user = 2; namespace = 4 };
   moment = 0;
 }
