@@ -1,16 +1,13 @@
 -- Places with a mounted namespace, worked out: user 1 has home 1, where namespace 2 is mounted at `/M/Shared`.
-use Rattle.std.proofs.Common.{◌≡◌, ℕ, List, [], ◌∷◌, Option, None, Some, true, false, codes, refl}
-use Rattle.fh_model.specs.declared.changes.Change.{Change}
+use Rattle.std.proofs.Common.{◌≡◌, [], ◌∷◌, None, Some, true, false, codes, refl}
 use Rattle.fh_model.specs.declared.changes.Change.TheVariants.{Put, Gone}
-use Rattle.fh_model.specs.declared.changes.Item.{Item}
 use Rattle.fh_model.specs.declared.changes.Node.TheVariants.{Folder, Mount}
 use Rattle.fh_model.specs.declared.names.Name.{Name}
-use Rattle.fh_model.specs.declared.paths.PathArg.TheVariants.{Names, Id, Rev, Ns}
-use Rattle.fh_model.specs.declared.paths.Place.{Place}
-use Rattle.fh_model.specs.Places.{place_of, view_of, seen_from}
-use Rattle.fh_model.specs.Resolve.{Look, look_at, not_found, found}
+use Rattle.fh_model.specs.declared.paths.PathArg.TheVariants.{Names, Id, Ns}
+use Rattle.fh_model.specs.Places.{place_of}
+use Rattle.fh_model.specs.Resolve.{look_at, found}
 use Rattle.fh_model.specs.State.{State, tree_in}
-use Rattle.fh_model.specs.Trees.{Tree, tree_after}
+use Rattle.fh_model.specs.Trees.{tree_after}
 use Rattle.fh_model.specs.WritePlaces.{missed_above, shown_in}
 
 abbrev m : Name

@@ -3,8 +3,8 @@ use Rattle.std.proofs.Common.{◌≡◌, ℕ, List, [], ◌∷◌, ◌++◌, ref
 use Rattle.fh_model.specs.declared.commands.Cmd.{Cmd}
 use Rattle.fh_model.specs.History.{Kept, state_of, state_after, with_more, next_of, reply_of, entered}
 use Rattle.fh_model.specs.State.{State}
-use Rattle.fh_model.specs.Step.{Stepped, step}
-use Rattle.fh_model.specs.Connection.{Turn, cmd_of, told, gained_in, texts, gained}
+use Rattle.fh_model.specs.Step.{step}
+use Rattle.fh_model.specs.Connection.{Turn, told, gained_in, texts, gained}
 
 pub state_after-append : (s : State) (g h : List Cmd) → state_after s (g ++ h) ≡ state_after (state_after s g) h
 state_after-append s [] h = refl

@@ -5,7 +5,7 @@ use Rattle.fh_model.specs.declared.commands.Cmd.{Cmd}
 use Rattle.fh_model.specs.History.{state_after, entered}
 use Rattle.fh_model.specs.ReplyText.{reply_text}
 use Rattle.fh_model.specs.State.{State}
-use Rattle.fh_model.specs.Step.{Stepped, step}
+use Rattle.fh_model.specs.Step.{step}
 
 -- One request of a connection: the name that it asks for, the clock's second at which its command came, and what
 -- others had entered into the history since the request before it. Its point is the history up to and with these.

@@ -1,9 +1,9 @@
 -- Histories: the commands that entered, in order, and what the machine is after them.
-use Rattle.std.specs.Prelude.{ℕ, ◌≡◌, Bool, true, false, if◌then◌else◌, List, [], ◌∷◌, ◌++◌}
+use Rattle.std.specs.Prelude.{◌≡◌, if◌then◌else◌, List, [], ◌∷◌, ◌++◌}
 use Rattle.fh_model.specs.declared.commands.Cmd.{Cmd}
 use Rattle.fh_model.specs.declared.replies.Reply.{Reply}
 use Rattle.fh_model.specs.State.{State}
-use Rattle.fh_model.specs.Step.{Stepped, step}
+use Rattle.fh_model.specs.Step.{step}
 
 -- the machine after commands
 abbrev pub state_after : State → List Cmd → State

@@ -16,5 +16,6 @@ pub mod RowRules
 pub mod Rows
 pub mod State
 pub mod Step
+pub mod TreeOrder
 pub mod Trees
 pub mod WritePlaces

@@ -1,5 +1,5 @@
 -- What a user's path leads to.
-use Rattle.std.specs.Prelude.{ℕ, Bool, if◌then◌else◌, List, [], ◌∷◌, Option, None, Some}
+use Rattle.std.specs.Prelude.{ℕ, if◌then◌else◌, List, [], ◌∷◌, Option, None, Some}
 use Rattle.fh_model.specs.declared.changes.Item.{Item}
 use Rattle.fh_model.specs.declared.names.Name.{Name}
 use Rattle.fh_model.specs.declared.paths.Found.{Found}

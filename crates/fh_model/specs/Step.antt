@@ -1,5 +1,5 @@
 -- One step of the machine: what a command leaves, what it is answered, and whether it enters the history.
-use Rattle.std.specs.Prelude.{ℕ, ◌≡◌, ◌+◌, max, codes, Bool, true, false, if◌then◌else◌, List, [], ◌∷◌, ◌++◌, length, map, Option, None, Some}
+use Rattle.std.specs.Prelude.{ℕ, ◌+◌, max, codes, Bool, true, false, if◌then◌else◌, List, [], ◌∷◌, ◌++◌, length, map, Option, None, Some}
 use Rattle.fh_model.specs.declared.changes.Change.{Change}
 use Rattle.fh_model.specs.declared.changes.Change.TheVariants.{Put}
 use Rattle.fh_model.specs.declared.changes.Item.{Item}
@@ -18,7 +18,7 @@ use Rattle.fh_model.specs.Nodes.{kind_tag}
 use Rattle.fh_model.specs.PathRule.{path_of}
 use Rattle.fh_model.specs.Places.{is_below_file, names_in_view}
 use Rattle.fh_model.specs.State.{State, user_of, tree_in, grown, is_spent}
-use Rattle.fh_model.specs.Trees.{Tree, item_at}
+use Rattle.fh_model.specs.Trees.{item_at}
 use Rattle.fh_model.specs.WritePlaces.{write_place, shown_in, missed_above}
 
 pub record Stepped : Type 0 where

@@ -1,5 +1,5 @@
 -- The tree of a namespace: what stands at each key, made by applying the changes in order.
-use Rattle.std.specs.Prelude.{ℕ, ◌-◌, ◌||◌, not, Bool, true, false, List, [], ◌∷◌, ◌++◌, filter, find, take, Option, None, Some}
+use Rattle.std.specs.Prelude.{ℕ, ◌-◌, ◌||◌, not, List, [], ◌∷◌, ◌++◌, filter, find, take, Option}
 use Rattle.std.specs.Ordering.{is_lt, is_gt}
 use Rattle.fh_model.specs.declared.changes.Change.{Change}
 use Rattle.fh_model.specs.declared.changes.Change.TheVariants.{Put, Gone}
