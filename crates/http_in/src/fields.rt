@@ -5,11 +5,12 @@ ghost use Rattle.http_in.specs.Values.{AreValues, IsNoted, first_of, value_if};
 
 use httparse::spans::HeaderSpan;
 
-/// Whether the names are one, without regard to case.
+/// Whether the names are one, without regard to case. Most are written as they are looked for, and then one
+/// comparison of all bytes tells it.
 pub(crate) fn is_name(a: &[u8], b: &[u8]) -> bool
     ensures { result ≡ is_same_name a.now b.now }
 {
-    a.eq_ignore_ascii_case(b)
+    a == b || a.eq_ignore_ascii_case(b)
 }
 
 /// What the fields of a head say that is read: of each name the value of the first field.
@@ -47,23 +48,23 @@ impl<'a> Values<'a> {
         requires { self.old.lengths < usize.MAX }
         ensures { IsNoted self.old (name.now, value.now) self.new }
     {
-        keep_first(&mut self.length, b"content-length".as_slice(), name, value);
+        keep_first(&mut self.length, b"Content-Length".as_slice(), name, value);
         keep_first(
             &mut self.coding,
-            b"transfer-encoding".as_slice(),
+            b"Transfer-Encoding".as_slice(),
             name,
             value,
         );
-        keep_first(&mut self.expect, b"expect".as_slice(), name, value);
-        keep_first(&mut self.connection, b"connection".as_slice(), name, value);
+        keep_first(&mut self.expect, b"Expect".as_slice(), name, value);
+        keep_first(&mut self.connection, b"Connection".as_slice(), name, value);
         keep_first(
             &mut self.authorization,
-            b"authorization".as_slice(),
+            b"Authorization".as_slice(),
             name,
             value,
         );
-        keep_first(&mut self.arg, b"dropbox-api-arg".as_slice(), name, value);
-        if is_name(name, b"content-length".as_slice()) {
+        keep_first(&mut self.arg, b"Dropbox-API-Arg".as_slice(), name, value);
+        if is_name(name, b"Content-Length".as_slice()) {
             self.lengths += 1;
         }
     }

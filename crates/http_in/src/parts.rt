@@ -84,7 +84,7 @@ pub(crate) fn read_token(value: &[u8]) -> Option<&[u8]>
     ensures { option_map (λ v. v.now) result ≡ token_of value.now }
 {
     let count = value.len().min(7);
-    if is_name(&value[..count], b"bearer ".as_slice()) {
+    if is_name(&value[..count], b"Bearer ".as_slice()) {
         Some(&value[count..])
     } else {
         None
