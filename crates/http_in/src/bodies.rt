@@ -26,7 +26,8 @@ pub enum BodyStep {
     TooLarge,
     /// The source failed.
     ReadFault,
-    /// Memory ran out. No byte is lost, and the call may be made again.
+    /// Memory ran out. No byte is lost, and the call may be made again. A reader asks for all memory that `body` needs
+    /// when it is made, so this doesn't come from it.
     NoMemory,
 }
 

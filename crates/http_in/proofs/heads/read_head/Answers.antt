@@ -1,4 +1,4 @@
-use Rattle.std.proofs.Common.{◌≡◌, ◌<◌, ◌≤◌, length, arith, subst, ap, List, ℕ, zero, suc, refl, inl, false}
+use Rattle.std.proofs.Common.{◌≡◌, ◌<◌, ◌≤◌, length, arith, subst, List, ℕ, zero, suc, refl, inl, false}
 use Rattle.std.specs.Prelude.{◌==◌}
 use Rattle.httparse.specs.Grammar.{NeverHasRequest}
 use Rattle.http_in.specs.declared.heads.Step.TheVariants.{Cut, Bad, HeadTooLarge}
