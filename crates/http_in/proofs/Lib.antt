@@ -3,6 +3,7 @@ pub mod BodyRuns
 pub mod Endings
 pub mod FieldSteps
 pub mod HeadFacts
+pub mod HeldFacts
 pub mod LineEndings
 pub mod LineFacts
 pub mod OneBody

@@ -15,5 +15,6 @@ pub mod Stands
 pub mod Steps
 pub mod Trailers
 pub mod Unique
+pub mod Values
 pub mod Verdicts
 pub mod Readings

@@ -1,11 +1,11 @@
-ghost use Rattle.std.specs.Prelude.{◌≡◌, ◌<◌, ◌≤◌, length, vec_len};
+ghost use Rattle.std.specs.Prelude.{◌≡◌, ◌<◌, ◌≤◌, length};
 ghost use Rattle.fh_world.specs.Causes.{Rose};
 ghost use Rattle.http_in.specs.BodySteps.{PlaceCall, FitsRoom, state_after_body};
 ghost use Rattle.http_in.specs.Reading.{IsGiven};
 
 use crate::chunks::{Move, advance, shrink};
 use crate::heads::SPANS;
-use crate::input::{Filled, drop_front, fill};
+use crate::held::{Filled, Held};
 use crate::limits::HEAD_MAX_BYTES;
 use crate::place::{Place, State};
 use fh_world::Source;
@@ -26,7 +26,8 @@ pub enum BodyStep {
     TooLarge,
     /// The source failed.
     ReadFault,
-    /// Memory ran out. No byte is lost, and the call may be made again.
+    /// Memory ran out. No byte is lost, and the call may be made again. A reader asks for all memory that `body` needs
+    /// when it is made, so this doesn't come from it.
     NoMemory,
 }
 
@@ -39,11 +40,11 @@ enum Given {
 }
 
 /// The next bytes, at most so many, from those at hand or else from the source.
-fn give<S: Source>(held: &mut Vec<u8>, most: u64, source: &mut S, buf: &mut [u8]) -> Given
+fn give<S: Source>(held: &mut Held, most: u64, source: &mut S, buf: &mut [u8]) -> Given
     requires most { 0 < most }
     requires room { 0 < length buf.old }
-    ensures given { IsGiven S.given S.left source.old source.new held.old.items held.new.items result most buf.new }
-    ensures within { vec_len held.new ≤ vec_len held.old }
+    ensures given { IsGiven S.given S.left source.old source.new held.old held.new result most buf.new }
+    ensures within { length held.new ≤ length held.old }
     ensures place { S.place source.new ≡ S.place source.old }
     ensures later { S.faults source.old ≤ S.faults source.new }
     ensures fault { result ≡ Given.Fault → Rose (S.faults source.old) (S.faults source.new) }
@@ -58,25 +59,25 @@ fn give<S: Source>(held: &mut Vec<u8>, most: u64, source: &mut S, buf: &mut [u8]
     }
     let count = room.min(held.len());
     buf[..count].copy_from_slice(&held.as_slice()[..count]);
-    drop_front(held, count);
+    held.drop_front(count);
     Given::Bytes(count)
 }
 
 /// Reads from a place inside a body on, up to the next bytes of content or the end.
 pub(crate) fn read_body<S: Source>(
-    held: &mut Vec<u8>,
+    held: &mut Held,
     spans: &mut [HeaderSpan],
     place: &mut Place,
     source: &mut S,
     buf: &mut [u8],
 ) -> BodyStep
-    requires within { vec_len held.old ≤ HEAD_MAX_BYTES }
+    requires within { length held.old ≤ HEAD_MAX_BYTES }
     requires room { length spans.old ≡ SPANS }
     requires some { 0 < length buf.old }
-    ensures step { PlaceCall S.given S.left source.old source.new held.old.items held.new.items place.old place.new
+    ensures step { PlaceCall S.given S.left source.old source.new held.old held.new place.old place.new
         result buf.new }
     ensures fits { FitsRoom result (length buf.new) }
-    ensures within { vec_len held.new ≤ HEAD_MAX_BYTES }
+    ensures within { length held.new ≤ HEAD_MAX_BYTES }
     ensures place { S.place source.new ≡ S.place source.old }
     ensures later { S.faults source.old ≤ S.faults source.new }
     ensures fault { result ≡ BodyStep.ReadFault → Rose (S.faults source.old) (S.faults source.new) }
@@ -94,11 +95,10 @@ pub(crate) fn read_body<S: Source>(
                     Given::Fault => BodyStep::ReadFault,
                 };
             }
-            Move::Wants => match fill(held, source) {
+            Move::Wants => match held.fill(source) {
                 Filled::More => {}
                 Filled::End => return BodyStep::Cut,
                 Filled::Fault => return BodyStep::ReadFault,
-                Filled::NoMemory => return BodyStep::NoMemory,
             },
             Move::Done => return BodyStep::Done,
             Move::Bad => return BodyStep::Bad,

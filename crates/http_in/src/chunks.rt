@@ -1,9 +1,9 @@
-ghost use Rattle.std.specs.Prelude.{◌≡◌, ◌≤◌, length, vec_len};
+ghost use Rattle.std.specs.Prelude.{◌≡◌, ◌≤◌, length};
 ghost use Rattle.http_in.specs.LineVerdicts.{IsLineVerdict};
 ghost use Rattle.http_in.specs.Advance.{IsMove, Falls, IsEndVerdict, IsTrailerVerdict, shrunk, due};
 
 use crate::heads::SPANS;
-use crate::input::drop_front;
+use crate::held::Held;
 use crate::limits::{CHUNK_LINE_MAX_BYTES, HEAD_MAX_BYTES, HEAD_MAX_LINES};
 use crate::place::Place;
 use httparse::spans::{HeaderSpan, parse_headers};
@@ -111,17 +111,17 @@ fn judge_trailers(held: &[u8], spans: &mut [HeaderSpan]) -> TrailerVerdict
 }
 
 /// The move at a chunk line.
-fn at_line(budget: u64, held: &mut Vec<u8>) -> Move
-    ensures is { IsMove (Place.Line budget) held.old.items result held.new.items }
-    ensures falls { Falls (Place.Line budget) result (vec_len held.new) }
-    ensures within { vec_len held.new ≤ vec_len held.old }
+fn at_line(budget: u64, held: &mut Held) -> Move
+    ensures is { IsMove (Place.Line budget) held.old result held.new }
+    ensures falls { Falls (Place.Line budget) result (length held.new) }
+    ensures within { length held.new ≤ length held.old }
 {
     match judge_line(held.as_slice()) {
         LineVerdict::Whole(len, size) => {
             if size > budget {
                 return Move::TooLarge;
             }
-            drop_front(held, len);
+            held.drop_front(len);
             if size == 0 {
                 Move::To(Place::Trailers)
             } else {
@@ -134,14 +134,14 @@ fn at_line(budget: u64, held: &mut Vec<u8>) -> Move
 }
 
 /// The move at the end of a chunk.
-fn at_end(budget: u64, held: &mut Vec<u8>) -> Move
-    ensures is { IsMove (Place.ChunkEnd budget) held.old.items result held.new.items }
-    ensures falls { Falls (Place.ChunkEnd budget) result (vec_len held.new) }
-    ensures within { vec_len held.new ≤ vec_len held.old }
+fn at_end(budget: u64, held: &mut Held) -> Move
+    ensures is { IsMove (Place.ChunkEnd budget) held.old result held.new }
+    ensures falls { Falls (Place.ChunkEnd budget) result (length held.new) }
+    ensures within { length held.new ≤ length held.old }
 {
     match judge_end(held.as_slice()) {
         EndVerdict::Whole => {
-            drop_front(held, 2);
+            held.drop_front(2);
             Move::To(Place::Line(budget))
         }
         EndVerdict::Bad => Move::Bad,
@@ -150,16 +150,16 @@ fn at_end(budget: u64, held: &mut Vec<u8>) -> Move
 }
 
 /// The move at the trailers.
-fn at_trailers(held: &mut Vec<u8>, spans: &mut [HeaderSpan]) -> Move
-    requires within { vec_len held.old ≤ HEAD_MAX_BYTES }
+fn at_trailers(held: &mut Held, spans: &mut [HeaderSpan]) -> Move
+    requires within { length held.old ≤ HEAD_MAX_BYTES }
     requires room { length spans.old ≡ SPANS }
-    ensures is { IsMove Place.Trailers held.old.items result held.new.items }
-    ensures falls { Falls Place.Trailers result (vec_len held.new) }
-    ensures within { vec_len held.new ≤ vec_len held.old }
+    ensures is { IsMove Place.Trailers held.old result held.new }
+    ensures falls { Falls Place.Trailers result (length held.new) }
+    ensures within { length held.new ≤ length held.old }
 {
     match judge_trailers(held.as_slice(), spans) {
         TrailerVerdict::Whole(len) => {
-            drop_front(held, len);
+            held.drop_front(len);
             Move::Done
         }
         TrailerVerdict::TooLarge => Move::TooLarge,
@@ -169,12 +169,12 @@ fn at_trailers(held: &mut Vec<u8>, spans: &mut [HeaderSpan]) -> Move
 }
 
 /// The move at a place.
-pub(crate) fn advance(place: Place, held: &mut Vec<u8>, spans: &mut [HeaderSpan]) -> Move
-    requires within { vec_len held.old ≤ HEAD_MAX_BYTES }
+pub(crate) fn advance(place: Place, held: &mut Held, spans: &mut [HeaderSpan]) -> Move
+    requires within { length held.old ≤ HEAD_MAX_BYTES }
     requires room { length spans.old ≡ SPANS }
-    ensures is { IsMove place held.old.items result held.new.items }
-    ensures falls { Falls place result (vec_len held.new) }
-    ensures within { vec_len held.new ≤ vec_len held.old }
+    ensures is { IsMove place held.old result held.new }
+    ensures falls { Falls place result (length held.new) }
+    ensures within { length held.new ≤ length held.old }
 {
     match place {
         Place::Known(count) => {

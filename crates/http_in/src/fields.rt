@@ -1,40 +1,91 @@
-ghost use Rattle.std.specs.Prelude.{◌≡◌, ℕ, ◌≤◌, length, map, All, option_map, take};
+ghost use Rattle.std.specs.Prelude.{◌≡◌, ◌<◌, ◌≤◌, length, map, All, option_map};
 ghost use Rattle.httparse.specs.Spans.{IsHeaderWithin, header_bytes};
-ghost use Rattle.http_in.specs.Fields.{is_same_name, find_field};
-ghost use Rattle.http_in.specs.Framing.{count_named};
+ghost use Rattle.http_in.specs.Fields.{is_same_name};
+ghost use Rattle.http_in.specs.Values.{AreValues, IsNoted, first_of, value_if};
 
 use httparse::spans::HeaderSpan;
 
-/// Whether the names are one, without regard to case.
+/// Whether the names are one, without regard to case. Most are written as they are looked for, and then one
+/// comparison of all bytes tells it.
 pub(crate) fn is_name(a: &[u8], b: &[u8]) -> bool
     ensures { result ≡ is_same_name a.now b.now }
 {
-    a.eq_ignore_ascii_case(b)
+    a == b || a.eq_ignore_ascii_case(b)
 }
 
-/// The value of the first field of that name.
-pub(crate) fn find_value<'a>(held: &'a [u8], spans: &[HeaderSpan], name: &[u8]) -> Option<&'a [u8]>
-    requires { All (IsHeaderWithin (length held.now)) spans.now }
-    ensures { option_map (λ v. v.now) result ≡ find_field name.now (map (header_bytes held.now) spans.now) }
-{
-    for span in spans {
-        if is_name(span.name.of(held), name) {
-            return Some(span.value.of(held));
-        }
-    }
-    None
+/// What the fields of a head say that is read: of each name the value of the first field.
+#[derive(Clone, Copy, Drop)]
+pub(crate) struct Values<'a> {
+    /// Of `Content-Length`.
+    pub length: Option<&'a [u8]>,
+    /// How many fields are named `Content-Length`.
+    pub lengths: usize,
+    /// Of `Transfer-Encoding`.
+    pub coding: Option<&'a [u8]>,
+    /// Of `Expect`.
+    pub expect: Option<&'a [u8]>,
+    /// Of `Connection`.
+    pub connection: Option<&'a [u8]>,
+    /// Of `Authorization`.
+    pub authorization: Option<&'a [u8]>,
+    /// Of `Dropbox-API-Arg`.
+    pub arg: Option<&'a [u8]>,
 }
 
-/// How many fields have that name.
-pub(crate) fn times_named(held: &[u8], spans: &[HeaderSpan], name: &[u8]) -> usize
-    requires { All (IsHeaderWithin (length held.now)) spans.now }
-    ensures { result ≡ count_named name.now (map (header_bytes held.now) spans.now) }
+/// Keeps the value where the name is the one looked for and none was found before.
+fn keep_first<'a>(found: &mut Option<&'a [u8]>, wanted: &[u8], name: &[u8], value: &'a [u8])
+    ensures { option_map (λ v. v.now) found.new
+        ≡ first_of (option_map (λ v. v.now) found.old) (value_if wanted.now (name.now, value.now)) }
 {
-    let mut count = 0;
-    for span in spans {
-        if is_name(span.name.of(held), name) {
-            count += 1;
+    if is_name(name, wanted) && found.is_none() {
+        *found = Some(value);
+    }
+}
+
+impl<'a> Values<'a> {
+    /// Notes one more field, behind those that were noted.
+    fn note(&mut self, name: &[u8], value: &'a [u8])
+        requires { self.old.lengths < usize.MAX }
+        ensures { IsNoted self.old (name.now, value.now) self.new }
+    {
+        keep_first(&mut self.length, b"Content-Length".as_slice(), name, value);
+        keep_first(
+            &mut self.coding,
+            b"Transfer-Encoding".as_slice(),
+            name,
+            value,
+        );
+        keep_first(&mut self.expect, b"Expect".as_slice(), name, value);
+        keep_first(&mut self.connection, b"Connection".as_slice(), name, value);
+        keep_first(
+            &mut self.authorization,
+            b"Authorization".as_slice(),
+            name,
+            value,
+        );
+        keep_first(&mut self.arg, b"Dropbox-API-Arg".as_slice(), name, value);
+        if is_name(name, b"Content-Length".as_slice()) {
+            self.lengths += 1;
         }
     }
-    count
+}
+
+/// The values of the fields, read in one go.
+pub(crate) fn read_values<'a>(held: &'a [u8], spans: &[HeaderSpan]) -> Values<'a>
+    requires { All (IsHeaderWithin (length held.now)) spans.now }
+    ensures { AreValues (map (header_bytes held.now) spans.now) result }
+{
+    let mut values = Values {
+        length: None,
+        lengths: 0,
+        coding: None,
+        expect: None,
+        connection: None,
+        authorization: None,
+        arg: None,
+    };
+    for span in spans {
+        values.note(span.name.of(held), span.value.of(held));
+    }
+    values
 }

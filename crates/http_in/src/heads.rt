@@ -1,4 +1,4 @@
-ghost use Rattle.std.specs.Prelude.{◌≡◌, ◌≤◌, length, take, map, vec_len};
+ghost use Rattle.std.specs.Prelude.{◌≡◌, ◌≤◌, length, take, map};
 ghost use Rattle.httparse.specs.Spans.{IsRequestWithin, span_bytes, header_bytes};
 ghost use Rattle.fh_world.specs.Causes.{Rose};
 ghost use Rattle.http_in.specs.Verdicts.{IsVerdict, IsTaken};
@@ -7,7 +7,7 @@ ghost use Rattle.http_in.specs.Stands.{place_of};
 ghost use Rattle.http_in.specs.PartsRead.{IsPartsRead};
 
 use crate::head::{Head, Length};
-use crate::input::{Filled, drop_front, fill};
+use crate::held::{Filled, Held};
 use crate::limits::{HEAD_MAX_BYTES, HEAD_MAX_LINES};
 use crate::parts::{Parts, body_limit, read_parts};
 use crate::place::{Place, State};
@@ -74,14 +74,14 @@ fn judge(held: &[u8], spans: &mut [HeaderSpan]) -> Verdict
 
 /// Reads up to the end of the next head, over the bytes that the reader holds.
 pub(crate) fn read_head<S: Source>(
-    held: &mut Vec<u8>,
+    held: &mut Held,
     spans: &mut [HeaderSpan],
     source: &mut S,
 ) -> Step
-    requires within { vec_len held.old ≤ HEAD_MAX_BYTES }
+    requires within { length held.old ≤ HEAD_MAX_BYTES }
     requires room { length spans.old ≡ SPANS }
-    ensures within { vec_len held.new ≤ HEAD_MAX_BYTES }
-    ensures step { HeadCall S.given S.left source.old source.new held.old.items held.new.items result }
+    ensures within { length held.new ≤ HEAD_MAX_BYTES }
+    ensures step { HeadCall S.given S.left source.old source.new held.old held.new result }
     ensures place { S.place source.new ≡ S.place source.old }
     ensures later { S.faults source.old ≤ S.faults source.new }
     ensures fault { result ≡ Step.ReadFault → Rose (S.faults source.old) (S.faults source.new) }
@@ -93,7 +93,7 @@ pub(crate) fn read_head<S: Source>(
             Verdict::Bad => return Step::Bad,
             Verdict::Unfinished => {}
         }
-        match fill(held, source) {
+        match held.fill(source) {
             Filled::More => {}
             Filled::End => return if held.is_empty() {
                 Step::End
@@ -101,21 +101,19 @@ pub(crate) fn read_head<S: Source>(
                 Step::Cut
             },
             Filled::Fault => return Step::ReadFault,
-            Filled::NoMemory => return Step::NoMemory,
         }
     }
 }
 
 /// Takes the head off the front of the bytes.
-fn take_head(held: &mut Vec<u8>, spans: &[HeaderSpan], found: &RequestSpans) -> Step
-    requires within { IsRequestWithin held.old.items spans.now found.now }
-    ensures within { vec_len held.new ≤ vec_len held.old }
-    ensures taken { IsTaken held.old.items spans.now found.now result held.new.items }
+fn take_head(held: &mut Held, spans: &[HeaderSpan], found: &RequestSpans) -> Step
+    requires within { IsRequestWithin held.old spans.now found.now }
+    ensures within { length held.new ≤ length held.old }
+    ensures taken { IsTaken held.old spans.now found.now result held.new }
 {
-    let alloc = *held.allocator();
-    match copy_head(alloc, held.as_slice(), spans, found) {
+    match copy_head(held.allocator(), held.as_slice(), spans, found) {
         Parts::Whole(head) => {
-            drop_front(held, found.len);
+            held.drop_front(found.len);
             Step::Head(head)
         }
         Parts::Misframed => Step::Bad,

@@ -28,7 +28,7 @@ mod chunks;
 mod fields;
 mod head;
 mod heads;
-mod input;
+mod held;
 mod laws;
 mod limits;
 mod parts;

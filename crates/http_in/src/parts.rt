@@ -5,7 +5,7 @@ ghost use Rattle.http_in.specs.Parts.{is_content_target, limit_of, token_of, say
 ghost use Rattle.http_in.specs.Fields.{find_field};
 ghost use Rattle.http_in.specs.PartsRead.{IsPartsRead};
 
-use crate::fields::{find_value, is_name, times_named};
+use crate::fields::{is_name, read_values};
 use crate::head::{Head, Length};
 use crate::limits::{BODY_MAX_BYTES, CONTENT_MAX_BYTES, LENGTH_MAX_DIGITS};
 use httparse::spans::HeaderSpan;
@@ -58,17 +58,6 @@ fn frame(stated: Option<&[u8]>, once: bool, coded: Option<&[u8]>) -> Option<Leng
     }
 }
 
-/// The framing that the fields state.
-pub(crate) fn read_framing(held: &[u8], spans: &[HeaderSpan]) -> Option<Length>
-    requires { All (IsHeaderWithin (length held.now)) spans.now }
-    ensures { result ≡ framing_in (map (header_bytes held.now) spans.now) }
-{
-    let stated = find_value(held, spans, b"content-length".as_slice());
-    let once = times_named(held, spans, b"content-length".as_slice()) < 2;
-    let coded = find_value(held, spans, b"transfer-encoding".as_slice());
-    frame(stated, once, coded)
-}
-
 /// Whether the bodies of this route are the content of a file.
 fn is_content(target: &[u8]) -> bool
     ensures { result ≡ is_content_target target.now }
@@ -95,7 +84,7 @@ pub(crate) fn read_token(value: &[u8]) -> Option<&[u8]>
     ensures { option_map (λ v. v.now) result ≡ token_of value.now }
 {
     let count = value.len().min(7);
-    if is_name(&value[..count], b"bearer ".as_slice()) {
+    if is_name(&value[..count], b"Bearer ".as_slice()) {
         Some(&value[count..])
     } else {
         None
@@ -180,17 +169,13 @@ pub(crate) fn read_parts(
     requires { All (IsHeaderWithin (length held.now)) spans.now }
     ensures { IsPartsRead method.now target.now minor (map (header_bytes held.now) spans.now) result }
 {
-    let Some(length) = read_framing(held, spans) else {
+    let values = read_values(held, spans);
+    let once = values.lengths < 2;
+    let Some(length) = frame(values.length, once, values.coding) else {
         return Parts::Misframed;
     };
-    let expects = is_said(
-        b"100-continue".as_slice(),
-        find_value(held, spans, b"expect".as_slice()),
-    );
-    let closes = is_said(
-        b"close".as_slice(),
-        find_value(held, spans, b"connection".as_slice()),
-    );
+    let expects = is_said(b"100-continue".as_slice(), values.expect);
+    let closes = is_said(b"close".as_slice(), values.connection);
     let awaited = is_awaited(body_limit(target), length);
     let Ok(method) = Vec::from_slice(alloc, method) else {
         return Parts::NoMemory;
@@ -198,16 +183,10 @@ pub(crate) fn read_parts(
     let Ok(target) = Vec::from_slice(alloc, target) else {
         return Parts::NoMemory;
     };
-    let Ok(token) = copy_some(
-        alloc,
-        token_behind(find_value(held, spans, b"authorization".as_slice())),
-    ) else {
+    let Ok(token) = copy_some(alloc, token_behind(values.authorization)) else {
         return Parts::NoMemory;
     };
-    let Ok(arg) = copy_some(
-        alloc,
-        find_value(held, spans, b"dropbox-api-arg".as_slice()),
-    ) else {
+    let Ok(arg) = copy_some(alloc, values.arg) else {
         return Parts::NoMemory;
     };
     Parts::Whole(Head {

@@ -6,6 +6,7 @@ ghost use Rattle.http_in.specs.BodySteps.{BodyCall, FitsRoom};
 
 use crate::bodies::{BodyStep, read_body, settle_body};
 use crate::heads::{SPANS, Step, read_head, settle};
+use crate::held::Held;
 use crate::limits::HEAD_MAX_BYTES;
 use crate::place::State;
 use fh_model::NoMemory;
@@ -19,33 +20,34 @@ use std::marker::Model;
 /// Contracts see the bytes that it read and has not answered yet, `held`, and where it stands, `state`.
 #[derive(Drop)]
 pub struct Reader {
-    held: Vec<u8>,
+    held: Held,
     spans: Vec<HeaderSpan>,
     state: State,
 }
 
 impl Model for Reader {
-    ghost use Rattle.std.specs.Prelude.{◌≡◌, ◌≤◌, vec_len};
+    ghost use Rattle.std.specs.Prelude.{◌≡◌, ◌≤◌, length, vec_len};
     ghost use Rattle.http_in.specs.Stands.{Stand};
     ghost use Rattle.http_in.specs.declared.limits.TheConstants.{HEAD_MAX_BYTES};
     ghost use Rattle.http_in.specs.declared.heads.TheConstants.{SPANS};
 
     ghost Value = { Stand };
 
-    ghost view = { λ r. record { held = r.held.items; state = r.state } };
+    ghost view = { λ r. record { held = r.held; state = r.state } };
 
-    ghost invariant = { λ r. (vec_len r.held ≤ HEAD_MAX_BYTES) × (vec_len r.spans ≡ SPANS) };
+    ghost invariant = { λ r. (length r.held ≤ HEAD_MAX_BYTES) × (vec_len r.spans ≡ SPANS) };
 }
 
 impl Reader {
-    /// A reader that holds no bytes yet. Its one big piece of memory is asked for here.
+    /// A reader that holds no bytes yet. All memory that it holds is asked for here.
     pub fn new(alloc: Global) -> Result<Reader, NoMemory>
         ensures held { IfOk result (λ r. r.held ≡ []) }
         ensures state { IfOk result (λ r. r.state ≡ State.Between) }
     {
+        let held = Held::new(alloc)?;
         let spans = vec![in alloc; EMPTY_HEADER_SPAN; SPANS]?;
         Ok(Reader {
-            held: Vec::new(alloc),
+            held,
             spans,
             state: State::Between,
         })

@@ -7,14 +7,14 @@ use Rattle.http_in.proofs.bodies.read_body.Goals as goal
 
 pub moves-init : goal.moves-init
 moves-init g c = record {
-  run = run_none g.S.Source.given g.S.Source.left c.args.source.now c.args.held.now.items c.args.place.now;
+  run = run_none g.S.Source.given g.S.Source.left c.args.source.now c.args.held.now c.args.place.now;
   going = search rules;
 }
 
 pub moves-preserved-in-To : goal.moves-preserved-in-To
 moves-preserved-in-To g c = record {
-  run = run_moves g.S.Source.given g.S.Source.left c.args.source.now c.moves.source c.args.held.now.items c.moves.held.items
-      c.advance.new.held.items c.args.place.now c.moves.place c.in-To.next c.moves.invariant.run c.in-To.ensures.is;
+  run = run_moves g.S.Source.given g.S.Source.left c.args.source.now c.moves.source c.args.held.now c.moves.held
+      c.advance.new.held c.args.place.now c.moves.place c.in-To.next c.moves.invariant.run c.in-To.ensures.is;
   going = record {
     place_is = c.moves.invariant.going.place_is;
     later = c.moves.invariant.going.later;
@@ -25,11 +25,11 @@ moves-preserved-in-To g c = record {
 
 pub moves-preserved : goal.moves-preserved
 moves-preserved g c =
-    let run = run_same g.S.Source.given g.S.Source.left c.args.source.now c.moves.source c.args.held.now.items c.moves.held.items
-    c.advance.new.held.items c.args.place.now c.moves.place c.moves.invariant.run c.in-Wants.ensures.is.0 in
+    let run = run_same g.S.Source.given g.S.Source.left c.args.source.now c.moves.source c.args.held.now c.moves.held
+    c.advance.new.held c.args.place.now c.moves.place c.moves.invariant.run c.in-Wants.ensures.is.0 in
     record {
-      run = run_fills g.S.Source.given g.S.Source.left c.args.source.now c.moves.source c.fill.new.source c.args.held.now.items
-          c.advance.new.held.items c.fill.new.held.items c.args.place.now c.moves.place run c.in-More.ensures.bytes;
+      run = run_fills g.S.Source.given g.S.Source.left c.args.source.now c.moves.source c.fill.new.source c.args.held.now
+          c.advance.new.held c.fill.new.self c.args.place.now c.moves.place run c.in-More.ensures.bytes;
       going = record {
         place_is = c.in-More.ensures.place ∙ c.moves.invariant.going.place_is;
         later = omega (arith, c.in-More.ensures.later, c.moves.invariant.going.later);
@@ -40,70 +40,62 @@ moves-preserved g c =
 
 pub returns-in-Bytes-clause-step : goal.returns-in-Bytes-clause-step
 returns-in-Bytes-clause-step g c =
-    let run = run_same g.S.Source.given g.S.Source.left c.args.source.now c.moves.source c.args.held.now.items c.moves.held.items
-    c.advance.new.held.items c.args.place.now c.moves.place c.moves.invariant.run c.in-Gives.ensures.is.0 in
+    let run = run_same g.S.Source.given g.S.Source.left c.args.source.now c.moves.source c.args.held.now c.moves.held
+    c.advance.new.held c.args.place.now c.moves.place c.moves.invariant.run c.in-Gives.ensures.is.0 in
     let given = c.in-Bytes.ensures.given in
-    let P : Place → Type 0 = λ p. PlaceCall g.S.Source.given g.S.Source.left c.args.source.now c.give.new.source c.args.held.now.items
-    c.give.new.held.items c.args.place.now p (Bytes c.in-Bytes.count) c.give.new.buf in
+    let P : Place → Type 0 = λ p. PlaceCall g.S.Source.given g.S.Source.left c.args.source.now c.give.new.source c.args.held.now
+    c.give.new.held c.args.place.now p (Bytes c.in-Bytes.count) c.give.new.buf in
     subst P (sym c.shrink.ensures)
-    (given_call g.S.Source.given g.S.Source.left c.args.source.now c.moves.source c.give.new.source c.args.held.now.items
-    c.advance.new.held.items c.give.new.held.items c.give.new.buf c.args.place.now c.moves.place c.in-Bytes.count run given.0
+    (given_call g.S.Source.given g.S.Source.left c.args.source.now c.moves.source c.give.new.source c.args.held.now
+    c.advance.new.held c.give.new.held c.give.new.buf c.args.place.now c.moves.place c.in-Bytes.count run given.0
     (omega (arith, given.1, c.in-Gives.ensures.is.2)) given.2 given.3)
 
 pub returns-in-End-clause-step : goal.returns-in-End-clause-step
 returns-in-End-clause-step g c =
-    let run = run_same g.S.Source.given g.S.Source.left c.args.source.now c.moves.source c.args.held.now.items c.moves.held.items
-    c.advance.new.held.items c.args.place.now c.moves.place c.moves.invariant.run c.in-Gives.ensures.is.0 in
+    let run = run_same g.S.Source.given g.S.Source.left c.args.source.now c.moves.source c.args.held.now c.moves.held
+    c.advance.new.held c.args.place.now c.moves.place c.moves.invariant.run c.in-Gives.ensures.is.0 in
     let given = c.in-End.ensures.given in
-    given_cut g.S.Source.given g.S.Source.left c.args.source.now c.moves.source c.give.new.source c.args.held.now.items
-    c.advance.new.held.items c.give.new.held.items c.give.new.buf c.args.place.now c.moves.place c.moves.place run
+    given_cut g.S.Source.given g.S.Source.left c.args.source.now c.moves.source c.give.new.source c.args.held.now
+    c.advance.new.held c.give.new.held c.give.new.buf c.args.place.now c.moves.place c.moves.place run
     (omega (arith, c.in-Gives.ensures.is.1, c.in-Gives.ensures.is.2)) given.0 given.1 given.2
 
 pub returns-in-Fault-clause-step : goal.returns-in-Fault-clause-step
 returns-in-Fault-clause-step g c =
-    let run = run_same g.S.Source.given g.S.Source.left c.args.source.now c.moves.source c.args.held.now.items c.moves.held.items
-    c.advance.new.held.items c.args.place.now c.moves.place c.moves.invariant.run c.in-Gives.ensures.is.0 in
-    given_fault g.S.Source.given g.S.Source.left c.args.source.now c.moves.source c.give.new.source c.args.held.now.items
-    c.advance.new.held.items c.give.new.held.items c.give.new.buf c.args.place.now c.moves.place run c.in-Fault.ensures.given
+    let run = run_same g.S.Source.given g.S.Source.left c.args.source.now c.moves.source c.args.held.now c.moves.held
+    c.advance.new.held c.args.place.now c.moves.place c.moves.invariant.run c.in-Gives.ensures.is.0 in
+    given_fault g.S.Source.given g.S.Source.left c.args.source.now c.moves.source c.give.new.source c.args.held.now
+    c.advance.new.held c.give.new.held c.give.new.buf c.args.place.now c.moves.place run c.in-Fault.ensures.given
 
 pub returns-in-End-fill-clause-step : goal.returns-in-End-fill-clause-step
 returns-in-End-fill-clause-step g c =
-    let run = run_same g.S.Source.given g.S.Source.left c.args.source.now c.moves.source c.args.held.now.items c.moves.held.items
-    c.advance.new.held.items c.args.place.now c.moves.place c.moves.invariant.run c.in-Wants.ensures.is.0 in
-    let after = run_fills g.S.Source.given g.S.Source.left c.args.source.now c.moves.source c.fill.new.source c.args.held.now.items
-    c.advance.new.held.items c.fill.new.held.items c.args.place.now c.moves.place run c.in-End-fill.ensures.bytes in
+    let run = run_same g.S.Source.given g.S.Source.left c.args.source.now c.moves.source c.args.held.now c.moves.held
+    c.advance.new.held c.args.place.now c.moves.place c.moves.invariant.run c.in-Wants.ensures.is.0 in
+    let after = run_fills g.S.Source.given g.S.Source.left c.args.source.now c.moves.source c.fill.new.source c.args.held.now
+    c.advance.new.held c.fill.new.self c.args.place.now c.moves.place run c.in-End-fill.ensures.bytes in
     let end = c.in-End-fill.ensures.end refl in
-    wanted_cut g.S.Source.given g.S.Source.left c.args.source.now c.fill.new.source c.args.held.now.items c.moves.held.items
-    c.fill.new.held.items c.moves.buf c.args.place.now c.moves.place c.moves.place after c.in-Wants.ensures.is.1
+    wanted_cut g.S.Source.given g.S.Source.left c.args.source.now c.fill.new.source c.args.held.now c.moves.held
+    c.fill.new.self c.moves.buf c.args.place.now c.moves.place c.moves.place after c.in-Wants.ensures.is.1
     (end.1 ∙ c.in-Wants.ensures.is.0) end.0
 
 pub returns-in-Fault-fill-clause-step : goal.returns-in-Fault-fill-clause-step
 returns-in-Fault-fill-clause-step g c =
-    let run = run_same g.S.Source.given g.S.Source.left c.args.source.now c.moves.source c.args.held.now.items c.moves.held.items
-    c.advance.new.held.items c.args.place.now c.moves.place c.moves.invariant.run c.in-Wants.ensures.is.0 in
-    let after = run_fills g.S.Source.given g.S.Source.left c.args.source.now c.moves.source c.fill.new.source c.args.held.now.items
-    c.advance.new.held.items c.fill.new.held.items c.args.place.now c.moves.place run c.in-Fault-fill.ensures.bytes in
-    record { fresh = after.fresh; moves = after.moves; step_is = after.runs; at_end = tt }
-
-pub returns-in-NoMemory-clause-step : goal.returns-in-NoMemory-clause-step
-returns-in-NoMemory-clause-step g c =
-    let run = run_same g.S.Source.given g.S.Source.left c.args.source.now c.moves.source c.args.held.now.items c.moves.held.items
-    c.advance.new.held.items c.args.place.now c.moves.place c.moves.invariant.run c.in-Wants.ensures.is.0 in
-    let after = run_fills g.S.Source.given g.S.Source.left c.args.source.now c.moves.source c.fill.new.source c.args.held.now.items
-    c.advance.new.held.items c.fill.new.held.items c.args.place.now c.moves.place run c.in-NoMemory.ensures.bytes in
+    let run = run_same g.S.Source.given g.S.Source.left c.args.source.now c.moves.source c.args.held.now c.moves.held
+    c.advance.new.held c.args.place.now c.moves.place c.moves.invariant.run c.in-Wants.ensures.is.0 in
+    let after = run_fills g.S.Source.given g.S.Source.left c.args.source.now c.moves.source c.fill.new.source c.args.held.now
+    c.advance.new.held c.fill.new.self c.args.place.now c.moves.place run c.in-Fault-fill.ensures.bytes in
     record { fresh = after.fresh; moves = after.moves; step_is = after.runs; at_end = tt }
 
 pub returns-in-Done-clause-step : goal.returns-in-Done-clause-step
 returns-in-Done-clause-step g c =
-    done_call g.S.Source.given g.S.Source.left c.args.source.now c.moves.source c.args.held.now.items c.moves.held.items
-    c.advance.new.held.items c.moves.buf c.args.place.now c.moves.place c.moves.place c.moves.invariant.run c.in-Done.ensures.is
+    done_call g.S.Source.given g.S.Source.left c.args.source.now c.moves.source c.args.held.now c.moves.held
+    c.advance.new.held c.moves.buf c.args.place.now c.moves.place c.moves.place c.moves.invariant.run c.in-Done.ensures.is
 
 pub returns-in-Bad-clause-step : goal.returns-in-Bad-clause-step
 returns-in-Bad-clause-step g c =
-    bad_call g.S.Source.given g.S.Source.left c.args.source.now c.moves.source c.args.held.now.items c.moves.held.items
-    c.advance.new.held.items c.moves.buf c.args.place.now c.moves.place c.moves.place c.moves.invariant.run c.in-Bad.ensures.is.1
+    bad_call g.S.Source.given g.S.Source.left c.args.source.now c.moves.source c.args.held.now c.moves.held
+    c.advance.new.held c.moves.buf c.args.place.now c.moves.place c.moves.place c.moves.invariant.run c.in-Bad.ensures.is.1
 
 pub returns-in-TooLarge-clause-step : goal.returns-in-TooLarge-clause-step
 returns-in-TooLarge-clause-step g c =
-    large_call g.S.Source.given g.S.Source.left c.args.source.now c.moves.source c.args.held.now.items c.moves.held.items
-    c.advance.new.held.items c.moves.buf c.args.place.now c.moves.place c.moves.place c.moves.invariant.run c.in-TooLarge.ensures.is.1
+    large_call g.S.Source.given g.S.Source.left c.args.source.now c.moves.source c.args.held.now c.moves.held
+    c.advance.new.held c.moves.buf c.args.place.now c.moves.place c.moves.place c.moves.invariant.run c.in-TooLarge.ensures.is.1

@@ -1,4 +1,4 @@
-use Rattle.std.proofs.Common.{◌≡◌, ◌<◌, ◌≤◌, length, arith, subst, ap, List, ℕ, zero, suc, refl, inl, false, vec_len}
+use Rattle.std.proofs.Common.{◌≡◌, ◌<◌, ◌≤◌, length, arith, subst, List, ℕ, zero, suc, refl, inl, false}
 use Rattle.std.specs.Prelude.{◌==◌}
 use Rattle.httparse.specs.Grammar.{NeverHasRequest}
 use Rattle.http_in.specs.declared.heads.Step.TheVariants.{Cut, Bad, HeadTooLarge}
@@ -14,30 +14,30 @@ some_of (suc n) is = omega arith
 
 pub returns-in-Whole-clause-step : goal.returns-in-Whole-clause-step
 returns-in-Whole-clause-step g c =
-    let short : length c.reads.held.items ≤ 16384 = omega (arith, c.as_slice.ensures.len, c.reads.invariant.going.within, ap length c.as_slice.ensures.value) in
+    let short : length c.reads.held ≤ 16384 = c.reads.invariant.going.within in
     let P : List ℕ → Type 0 = λ b. IsWhole b c.judge.new.spans c.in-Whole.found in
-    taken_call g.S.Source.given g.S.Source.left c.args.source.now c.reads.source c.args.held.now.items c.reads.held.items c.take_head.new.held.items
+    taken_call g.S.Source.given g.S.Source.left c.args.source.now c.reads.source c.args.held.now c.reads.held c.take_head.new.held
     c.judge.new.spans c.in-Whole.found c.take_head.result c.reads.invariant.fills
     (subst P c.as_slice.ensures.value c.in-Whole.ensures.verdict) short c.take_head.ensures.taken
 
 pub returns-in-TooLarge-clause-step : goal.returns-in-TooLarge-clause-step
 returns-in-TooLarge-clause-step g c =
-    call_by g.S.Source.given g.S.Source.left c.args.source.now c.reads.source c.args.held.now.items c.reads.held.items c.reads.held.items
+    call_by g.S.Source.given g.S.Source.left c.args.source.now c.reads.source c.args.held.now c.reads.held c.reads.held
     HeadTooLarge c.reads.invariant.fills (subst IsOver c.as_slice.ensures.value c.in-TooLarge.ensures.verdict, refl) tt
 
 pub returns-in-Bad-clause-step : goal.returns-in-Bad-clause-step
 returns-in-Bad-clause-step g c =
-    let short : length c.reads.held.items ≤ 16384 = omega (arith, c.as_slice.ensures.len, c.reads.invariant.going.within, ap length c.as_slice.ensures.value) in
-    let bad = bad_held c.reads.held.items short (subst NeverHasRequest c.as_slice.ensures.value c.in-Bad.ensures.verdict) in
-    call_by g.S.Source.given g.S.Source.left c.args.source.now c.reads.source c.args.held.now.items c.reads.held.items c.reads.held.items
+    let short : length c.reads.held ≤ 16384 = c.reads.invariant.going.within in
+    let bad = bad_held c.reads.held short (subst NeverHasRequest c.as_slice.ensures.value c.in-Bad.ensures.verdict) in
+    call_by g.S.Source.given g.S.Source.left c.args.source.now c.reads.source c.args.held.now c.reads.held c.reads.held
     Bad c.reads.invariant.fills (inl bad, refl) tt
 
 pub returns-else-is_empty-clause-step : goal.returns-else-is_empty-clause-step
 returns-else-is_empty-clause-step g c =
-    let fills = fills_more g.S.Source.given g.S.Source.left c.args.source.now c.reads.source c.fill.new.source c.args.held.now.items
-    c.reads.held.items c.fill.new.held.items c.reads.invariant.fills c.in-End.ensures.bytes in
+    let fills = fills_more g.S.Source.given g.S.Source.left c.args.source.now c.reads.source c.fill.new.source c.args.held.now
+    c.reads.held c.fill.new.self c.reads.invariant.fills c.in-End.ensures.bytes in
     let end = c.in-End.ensures.end refl in
     let unfinished = subst IsUnfinished c.as_slice.ensures.value c.in-Unfinished.ensures.verdict in
-    let some : 0 < vec_len c.fill.new.held = some_of (vec_len c.fill.new.held) c.if-is_empty.ensures in
-    call_by g.S.Source.given g.S.Source.left c.args.source.now c.fill.new.source c.args.held.now.items c.fill.new.held.items c.fill.new.held.items
-    Cut fills (cut_held c.reads.held.items c.fill.new.held.items unfinished end.1 (omega (arith, some)), refl) end.0
+    let some : 0 < length c.fill.new.self = some_of (length c.fill.new.self) c.if-is_empty.ensures in
+    call_by g.S.Source.given g.S.Source.left c.args.source.now c.fill.new.source c.args.held.now c.fill.new.self c.fill.new.self
+    Cut fills (cut_held c.reads.held c.fill.new.self unfinished end.1 (omega (arith, some)), refl) end.0
