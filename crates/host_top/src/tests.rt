@@ -349,6 +349,37 @@ fn files_that_hold_no_store_are_told(rt: HostRuntime) -> Result<(), Fail> {
     Ok(())
 }
 
+/// The place of the record that a slot with three rows and one command loses where it is cut to this length.
+fn cut_record(length: usize) -> u64 {
+    match length {
+        0..=58 => 0,
+        59..=85 => 58,
+        86..=124 => 85,
+        _ => 124,
+    }
+}
+
+#[test]
+fn a_store_cut_at_any_byte_is_damaged_at_its_record(rt: HostRuntime) -> Result<(), Fail> {
+    let alloc = rt.alloc();
+    let mut whole = MemDisk::new(alloc)?;
+    run_over(&rt, &mut whole, &PIPE, DOCS, &[], &[])?;
+    let slot = Vec::from_slice(alloc, whole.bytes(FileNo::SlotA))?;
+    assert!(rt; slot.len() == 169);
+    for length in 0..slot.len() {
+        let left = &slot[..length];
+        let mut disk = MemDisk::with(alloc, whole.bytes(FileNo::Head), left, b"", b"")?;
+        let (status, sink) = run_over(&rt, &mut disk, &PIPE, DOCS, &[1], &[1])?;
+        let place = cut_record(length);
+        assert!(rt; status == Status::Damaged { place }, "cut to {length}");
+        assert!(rt;
+            sink.bytes().is_empty() && disk.bytes(FileNo::SlotA) == left,
+            "cut to {length}"
+        );
+    }
+    Ok(())
+}
+
 #[test]
 fn a_spent_counter_refuses_and_leaves_the_slot(rt: HostRuntime) -> Result<(), Fail> {
     let alloc = rt.alloc();
