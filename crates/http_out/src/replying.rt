@@ -23,6 +23,9 @@ impl BodyKind {
     }
 }
 
+/// The room for a head, which none passes, but for a download's metadata.
+const HEAD_ROOM_BYTES: usize = 160;
+
 /// Whether replies have this status.
 pub fn is_reply_status(status: u16) -> bool
     ensures { result ≡ is_reply_status status }
@@ -44,7 +47,7 @@ pub fn reply(
     requires { IsReplyStatus status }
     ensures { IfOk result (λ text. text.items ≡ reply_text status kind body.now close) }
 {
-    let mut out = Vec::new(alloc);
+    let mut out = Vec::with_capacity(alloc, body.len().saturating_add(HEAD_ROOM_BYTES))?;
     push_start(
         alloc,
         &mut out,
@@ -66,7 +69,8 @@ pub fn download_head(
 ) -> Result<Vec<u8>, NoMemory>
     ensures { IfOk result (λ text. text.items ≡ download_head_text metadata.now size close) }
 {
-    let mut out = Vec::new(alloc);
+    let room = metadata.as_bytes().len().saturating_add(HEAD_ROOM_BYTES);
+    let mut out = Vec::with_capacity(alloc, room)?;
     push_start(alloc, &mut out, 200, "application/octet-stream", size)?;
     push_download_end(&mut out, metadata.as_str(), close)?;
     Ok(out)
