@@ -1,0 +1,4 @@
+pub mod FieldKinds
+mod Joins
+pub mod Runs
+mod Said

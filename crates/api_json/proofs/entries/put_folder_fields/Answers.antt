@@ -1,0 +1,11 @@
+use Rattle.std.proofs.Common.{◌∙◌}
+use Rattle.api_json.proofs.Joins.{text_then, told_as}
+use Rattle.api_json.proofs.entries.put_folder_fields.Goals as goal
+
+pub returns-clause-tokens : goal.returns-clause-tokens
+returns-clause-tokens c =
+    let id = told_as _ _ _ _ _ c.in_ok-put_text.ensures.tokens (c.deref.ensures ∙ c.in_ok-id.ensures) in
+    let name = told_as _ _ _ _ _ c.in_ok-put_text-2.ensures.tokens c.name_text.ensures in
+    let display = told_as _ _ _ _ _ c.in_ok-put_text-3.ensures.tokens (c.deref-2.ensures ∙ c.in_ok-display.ensures) in
+    let lower = told_as _ _ _ _ _ c.in_ok-put_text-4.ensures.tokens (c.deref-3.ensures ∙ c.in_ok-lower.ensures) in
+    text_then _ _ _ _ _ _ id (text_then _ _ _ _ _ _ name (text_then _ _ _ _ _ _ display (text_then _ _ _ _ _ _ lower c.in_ok-end_object.ensures.ok)))

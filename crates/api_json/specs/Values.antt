@@ -1,0 +1,80 @@
+-- The value of a field: what an argument has at its key, where this keeps the field's rule.
+use Rattle.std.specs.Prelude.{ℕ, ◌==◌, ◌||◌, ◌&&◌, ◌^◌, ◌-◌, nat_le, codes, Bool, true, not, if◌then◌else◌, List, [], ◌∷◌, drop, length, take, Option, None, Some, option_and_then, Result, Ok, Err}
+use Rattle.std.specs.Char.{is_ascii_digit}
+use Rattle.std.specs.List.{list_all}
+use Rattle.std.specs.Str.{bytes_eq}
+use Rattle.serde_json.specs.Data.{Data, null, boolean, string}
+use Rattle.serde_json.specs.Find.{as_number, as_u64, get}
+use Rattle.fh_model.specs.declared.limits.TheConstants.{NAMESPACE_MAX_DIGITS}
+use Rattle.api_json.specs.declared.fields.Field.{Field}
+use Rattle.api_json.specs.declared.fields.Kind.{Kind}
+use Rattle.api_json.specs.declared.fields.Kind.TheVariants as kind
+use Rattle.api_json.specs.declared.fields.Rule.{Rule}
+use Rattle.api_json.specs.declared.fields.Rule.TheVariants.{BelowRoot, Only}
+use Rattle.api_json.specs.declared.reading.ReadFault.{ReadFault}
+use Rattle.api_json.specs.declared.reading.ReadFault.TheVariants.{BadField}
+use Rattle.api_json.specs.declared.values.Held.{Held}
+use Rattle.api_json.specs.declared.values.Held.TheVariants.{Text, Flag, Number}
+use Rattle.api_json.specs.Fields.{name_text}
+
+-- ---- by kind, of what is found at the key
+
+abbrev pub text_in : Option Data → Option Held
+text_in (Some (string text)) = Some (Text text)
+text_in _ = None
+
+-- null counts as absent
+abbrev pub flag_in : Bool → Option Data → Option Held
+flag_in default None = Some (Flag default)
+flag_in default (Some null) = Some (Flag default)
+flag_in default (Some (boolean flag)) = Some (Flag flag)
+flag_in default (Some _) = None
+
+abbrev pub small_number : ℕ → Option Held
+small_number n = if nat_le n (2 ^ 53 - 1) then Some (Number n) else None
+
+-- a number without a sign, a point or an exponent
+abbrev pub whole_number : Data → Option Held
+whole_number found = option_and_then small_number (option_and_then as_u64 (as_number found))
+
+abbrev pub number_in : Option Data → Option Held
+number_in found = option_and_then whole_number found
+
+abbrev pub held_in : Kind → Option Data → Option Held
+held_in kind.Text found = text_in found
+held_in (kind.Flag default) found = flag_in default found
+held_in kind.Number found = number_in found
+
+-- ---- by rule
+
+-- 1 to 18 digits
+abbrev pub are_namespace_digits : List ℕ → Bool
+are_namespace_digits digits = not (length digits == 0) && (nat_le (length digits) NAMESPACE_MAX_DIGITS && list_all is_ascii_digit digits)
+
+-- no text, or a namespace without names
+abbrev pub is_root_path : List ℕ → Bool
+is_root_path path = length path == 0 || (bytes_eq (take 3 path) (codes "ns:") && are_namespace_digits (drop 3 path))
+
+abbrev pub keeps : Rule → Held → Bool
+keeps BelowRoot (Text path) = not (is_root_path path)
+keeps (Only flag) (Flag value) = if flag then value else not value
+keeps _ _ = true
+
+-- ---- of an argument
+
+abbrev pub checked : Field → Option Held → Result Held ReadFault
+checked field None = Err (BadField field.name)
+checked field (Some value) = if keeps field.rule value then Ok value else Err (BadField field.name)
+
+abbrev pub value_of : Data → Field → Result Held ReadFault
+value_of argument field = checked field (held_in field.kind (get (name_text field.name) argument))
+
+abbrev pub before : Result Held ReadFault → Result (List Held) ReadFault → Result (List Held) ReadFault
+before (Err found) rest = Err found
+before (Ok value) (Err found) = Err found
+before (Ok value) (Ok values) = Ok (value ∷ values)
+
+-- the values of all fields, or the first field that breaks its rule
+abbrev pub values_of : Data → List Field → Result (List Held) ReadFault
+values_of argument [] = Ok []
+values_of argument (field ∷ fields) = before (value_of argument field) (values_of argument fields)

@@ -1,0 +1,136 @@
+use crate::write;
+use api_types::Answer;
+use fh_model::{Entry, Items, Name, Refusal, Text};
+use serde_json::Value;
+use std::alloc::{AllocError, Global};
+use std::test::*;
+
+fn text(alloc: Global, text: &str) -> Result<Text, AllocError> {
+    Ok(Text::new(String::from_str(alloc, text)?))
+}
+
+/// A folder with these shown and folded names, and number 171.
+fn folder(alloc: Global, names: &[(&str, &str)]) -> Result<Entry, AllocError> {
+    let mut list = Vec::new(alloc);
+    for (shown, folded) in names {
+        let shown = text(alloc, *shown)?;
+        let folded = text(alloc, *folded)?;
+        list.push(Name { shown, folded })?;
+    }
+    Ok(Entry::Folder {
+        names: Items::new(list),
+        id: 171,
+    })
+}
+
+fn refusal(
+    alloc: Global,
+    tags: &[&str],
+    session: Option<u64>,
+    offset: Option<u64>,
+) -> Result<Answer, AllocError> {
+    let mut list = Vec::new(alloc);
+    for tag in tags {
+        list.push(text(alloc, *tag)?)?;
+    }
+    Ok(Answer::Error(Refusal {
+        tags: Items::new(list),
+        session,
+        offset,
+    }))
+}
+
+/// What is written of an answer, if it is what `serde_json` writes again of what it reads there.
+fn written(alloc: Global, answer: &Answer) -> Result<String, Fail> {
+    let body = write(alloc, answer).ok().ok_or("out of memory")?;
+    let value = Value::from_slice(alloc, &body).ok().ok_or("no JSON")?;
+    let again = value.to_string(alloc)?;
+    if again.as_bytes() != body.as_slice() {
+        return Err("not as serde_json writes it".into());
+    }
+    Ok(again)
+}
+
+#[test]
+fn a_folder_is_told_with_its_tag_or_without(rt: HostRuntime) -> Result<(), Fail> {
+    let alloc = rt.alloc();
+    let tagged = Answer::Tagged(folder(alloc, &[("Docs", "docs"), ("A", "a")])?);
+    assert_eq!(rt;
+        written(alloc, &tagged)?.as_str(),
+        "{\".tag\":\"folder\",\"id\":\"id:00000000000000ab\",\"name\":\"A\",\"path_display\":\"/Docs/A\",\"path_lower\":\"/docs/a\"}"
+    );
+    let wrapped = Answer::Wrapped {
+        entry: folder(alloc, &[("Docs", "docs")])?,
+        tagged: false,
+    };
+    let body = written(alloc, &wrapped)?;
+    assert_eq!(rt;
+        body.as_str(),
+        "{\"metadata\":{\"id\":\"id:00000000000000ab\",\"name\":\"Docs\",\"path_display\":\"/Docs\",\"path_lower\":\"/docs\"}}"
+    );
+    assert_eq!(rt; body.len(), 99usize);
+    let both = Answer::Wrapped {
+        entry: folder(alloc, &[("Docs", "docs")])?,
+        tagged: true,
+    };
+    assert_eq!(rt; written(alloc, &both)?.len(), 115usize);
+    Ok(())
+}
+
+#[test]
+fn a_name_is_escaped(rt: HostRuntime) -> Result<(), Fail> {
+    let alloc = rt.alloc();
+    let name = "\"\\\u{1}\u{8}\t\n\u{c}\r\u{1f} \u{7f}\u{e9}\u{1f600}";
+    let answer = Answer::Tagged(folder(alloc, &[(name, "x")])?);
+    assert_eq!(rt;
+        written(alloc, &answer)?.as_str(),
+        "{\".tag\":\"folder\",\"id\":\"id:00000000000000ab\",\"name\":\"\\\"\\\\\\u0001\\b\\t\\n\\f\\r\\u001f \u{7f}\u{e9}\u{1f600}\",\"path_display\":\"/\\\"\\\\\\u0001\\b\\t\\n\\f\\r\\u001f \u{7f}\u{e9}\u{1f600}\",\"path_lower\":\"/x\"}"
+    );
+    Ok(())
+}
+
+#[test]
+fn tags_nest(rt: HostRuntime) -> Result<(), Fail> {
+    let alloc = rt.alloc();
+    let one = refusal(alloc, &["payload_too_large"], None, None)?;
+    let body = written(alloc, &one)?;
+    assert_eq!(rt;
+        body.as_str(),
+        "{\"error\":{\".tag\":\"payload_too_large\"},\"error_summary\":\"payload_too_large/...\"}"
+    );
+    assert_eq!(rt; body.len(), 78usize);
+    let three = refusal(alloc, &["path", "conflict", "folder"], None, None)?;
+    let body = written(alloc, &three)?;
+    assert_eq!(rt;
+        body.as_str(),
+        "{\"error\":{\".tag\":\"path\",\"path\":{\".tag\":\"conflict\",\"conflict\":{\".tag\":\"folder\"}}},\"error_summary\":\"path/conflict/folder/...\"}"
+    );
+    assert_eq!(rt; body.len(), 124usize);
+    Ok(())
+}
+
+#[test]
+fn a_refusal_names_its_session_or_offset(rt: HostRuntime) -> Result<(), Fail> {
+    let alloc = rt.alloc();
+    let upload = refusal(alloc, &["path", "conflict", "file"], Some(1), None)?;
+    assert_eq!(rt;
+        written(alloc, &upload)?.as_str(),
+        "{\"error\":{\".tag\":\"path\",\"reason\":{\".tag\":\"conflict\",\"conflict\":{\".tag\":\"file\"}},\"upload_session_id\":\"us:0000000000000001\"},\"error_summary\":\"path/conflict/file/...\"}"
+    );
+    let append = refusal(alloc, &["incorrect_offset"], None, Some(11))?;
+    assert_eq!(rt;
+        written(alloc, &append)?.as_str(),
+        "{\"error\":{\".tag\":\"incorrect_offset\",\"correct_offset\":11},\"error_summary\":\"incorrect_offset/...\"}"
+    );
+    let finish = refusal(
+        alloc,
+        &["lookup_failed", "incorrect_offset"],
+        None,
+        Some(u64::MAX),
+    )?;
+    assert_eq!(rt;
+        written(alloc, &finish)?.as_str(),
+        "{\"error\":{\".tag\":\"lookup_failed\",\"lookup_failed\":{\".tag\":\"incorrect_offset\",\"correct_offset\":18446744073709551615}},\"error_summary\":\"lookup_failed/incorrect_offset/...\"}"
+    );
+    Ok(())
+}

@@ -1,0 +1,2 @@
+pub mod HeaderSafe
+pub mod Reply
