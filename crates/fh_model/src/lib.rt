@@ -34,3 +34,6 @@ pub use replies::{Entry, Refusal, Reply};
 pub use rows::{Members, Row};
 pub use state::{Namespace, Next, User};
 pub use text::Text;
+
+#[cfg(test)]
+mod tests;

@@ -139,6 +139,7 @@ impl Image {
         let done = self.machine.step(cmd)?;
         Ok(done.reply)
     }
+
     /// What the path of a user leads to, as the user sees it. `Malformed` comes exactly where the text is, and
     /// `NotFound` where it leads to nothing: for a user that there isn't, each path does.
     pub fn resolve(&self, user: u64, path: &Text) -> Result<Found, LookFault>
