@@ -44,6 +44,7 @@ make_stays s moment None path stays = refl
 make_stays s moment (Some user) path stays = placed_stays s moment user.home (write_place s user.home (path_of path)) stays
 
 act_stays : (s : State) (moment : ℕ) (act : Act) → (act_on s moment act).enters ≡ false → (act_on s moment act).state ≡ s
+unfolding act_on
 act_stays s moment (MakeFolder user path rename) stays = make_stays s moment (user_of s user) path stays
 
 pub step_stays : (s : State) (cmd : Cmd) → (step s cmd).enters ≡ false → (step s cmd).state ≡ s

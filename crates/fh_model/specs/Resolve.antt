@@ -48,5 +48,5 @@ look_for s None (Some arg) = not_found
 look_for s (Some user) (Some arg) = look_at s user.home (place_of s user.home arg)
 
 -- what the text of a path leads to, for the user with this number
-abbrev pub resolve : State → ℕ → List ℕ → Look
+unfoldable pub resolve : State → ℕ → List ℕ → Look
 resolve s user text = look_for s (user_of s user) (path_of text)

@@ -79,7 +79,8 @@ abbrev pub make_folder : State → ℕ → Option User → List ℕ → Stepped
 make_folder s moment None path = refused s (codes "user" ∷ codes "not_found" ∷ [])
 make_folder s moment (Some user) path = folder_at s moment user.home (write_place s user.home (path_of path))
 
-abbrev pub act_on : State → ℕ → Act → Stepped
+-- What an act does is opened only where it is meant to be.
+unfoldable pub act_on : State → ℕ → Act → Stepped
 act_on s moment (MakeFolder user path rename) = make_folder s moment (user_of s user) path
 
 -- The moment of a command is its second, or the last moment where that is later.

@@ -24,6 +24,9 @@ const MADE: &[u8] =
 const TAKEN: &[u8] =
     b"HTTP/1.1 409 Conflict\r\nContent-Type: application/json\r\nContent-Length: 124\r\n\r\n{\"error\":{\".tag\":\"path\",\"path\":{\".tag\":\"conflict\",\"conflict\":{\".tag\":\"folder\"}}},\"error_summary\":\"path/conflict/folder/...\"}";
 
+const SPENT: &[u8] =
+    b"HTTP/1.1 409 Conflict\r\nContent-Type: application/json\r\nContent-Length: 70\r\n\r\n{\"error\":{\".tag\":\"numbers_spent\"},\"error_summary\":\"numbers_spent/...\"}";
+
 fn words_of(alloc: Global, texts: &[&str]) -> Result<Vec<String>, AllocError> {
     let mut words = Vec::new(alloc);
     for text in texts {
@@ -344,7 +347,9 @@ fn files_that_hold_no_store_are_told(rt: HostRuntime) -> Result<(), Fail> {
         assert!(rt; found == status && exit_code(found) == 3);
         assert!(rt; status_line(alloc, &found)?.as_str() == line);
         assert!(rt; sink.bytes().is_empty());
-        assert!(rt; disk.bytes(FileNo::Head) == head && disk.bytes(FileNo::SlotA) == slot);
+        assert!(rt;
+            disk.bytes(FileNo::Head) == head.as_slice() && disk.bytes(FileNo::SlotA) == slot
+        );
     }
     Ok(())
 }
@@ -396,10 +401,7 @@ fn a_spent_counter_refuses_and_leaves_the_slot(rt: HostRuntime) -> Result<(), Fa
     let mut disk = MemDisk::with(alloc, disk.bytes(FileNo::Head), &slot, b"", b"")?;
     let (status, sink) = run_over(&rt, &mut disk, &PIPE, DOCS, &[], &[])?;
     assert!(rt; status == Status::Done);
-    assert!(rt;
-        sink.bytes()
-            == b"HTTP/1.1 409 Conflict\r\nContent-Type: application/json\r\nContent-Length: 70\r\n\r\n{\"error\":{\".tag\":\"numbers_spent\"},\"error_summary\":\"numbers_spent/...\"}"
-    );
+    assert!(rt; sink.bytes() == SPENT);
     assert!(rt; disk.bytes(FileNo::SlotA) == slot.as_slice());
     Ok(())
 }
@@ -407,7 +409,7 @@ fn a_spent_counter_refuses_and_leaves_the_slot(rt: HostRuntime) -> Result<(), Fa
 /// The next id of the store that the disk holds, which tells how many folders were made; none where it isn't opened.
 fn next_id(alloc: Global, disk: MemDisk) -> Option<u64> {
     let store = Store::open(alloc, disk).ok()?;
-    let rows = store.image().rows(alloc).ok()?;
+    let rows = store.image().rows().ok()?;
     match rows.first() {
         Some(Row::Counters { id, .. }) => Some(*id),
         _ => None,

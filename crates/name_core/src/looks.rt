@@ -59,6 +59,7 @@ impl Machine {
     }
 
     /// What the path leads to.
+    #[tactic(auto, unfolding(fh_model::specs::Resolve::resolve))]
     pub(crate) fn resolve(&self, user: u64, path: &Text) -> Result<Found, LookFault>
         ensures found { IfOk result (λ there. resolve self.now user path.now ≡ found there) }
         ensures malformed { IsErrOf result LookFault.Malformed → resolve self.now user path.now ≡ malformed }

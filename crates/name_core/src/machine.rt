@@ -314,6 +314,7 @@ impl Machine {
     }
 
     /// Answers a command, and makes the next state where it enters.
+    #[tactic(auto, unfolding(fh_model::specs::Step::act_on))]
     pub(crate) fn step(&self, cmd: &Cmd) -> Result<Done, NoMemory>
         ensures { IfOk result (λ done. Does (step self.now cmd.now) self.now done.next done.reply) }
     {
