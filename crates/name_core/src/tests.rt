@@ -3,38 +3,123 @@ use fh_model::{Act, Cmd, Members, Reply, Row, Text};
 use std::alloc::Global;
 use std::test::*;
 
-fn counters(user: u64) -> Row {
-    Row::Counters {
-        rev: 1,
-        id: 1,
-        session: 1,
-        user,
-        namespace: 2,
-        moment: 0,
-    }
+/// A row in few words.
+#[derive(Clone, Copy)]
+enum Sketch {
+    /// Counters whose next user has this number.
+    Counters(u64),
+
+    /// A user's number and its home.
+    User(u64, u64),
+
+    /// A namespace's number, its length and its members.
+    Space(u64, u64, &'static [u64]),
 }
 
-fn user(number: u64, home: u64) -> Row {
-    Row::User {
-        number,
-        home,
-        token: None,
-    }
+fn row_of(alloc: Global, sketch: Sketch) -> Result<Row, Fail> {
+    Ok(match sketch {
+        Sketch::Counters(user) => Row::Counters {
+            rev: 1,
+            id: 1,
+            session: 1,
+            user,
+            namespace: 2,
+            moment: 0,
+        },
+        Sketch::User(number, home) => Row::User {
+            number,
+            home,
+            token: None,
+        },
+        Sketch::Space(number, length, members) => Row::Namespace {
+            number,
+            shared: false,
+            floor: 0,
+            length,
+            members: Members::new(Vec::from_slice(alloc, members)?),
+        },
+    })
 }
 
-fn space(number: u64, length: u64, members: Vec<u64>) -> Row {
-    Row::Namespace {
-        number,
-        shared: false,
-        floor: 0,
-        length,
-        members: Members::new(members),
+fn rows_of(alloc: Global, sketches: &[Sketch]) -> Result<Vec<Row>, Fail> {
+    let mut rows = Vec::new(alloc);
+    for sketch in sketches {
+        rows.push(row_of(alloc, *sketch)?)?;
     }
+    Ok(rows)
 }
 
-fn none(alloc: Global) -> Vec<u64> {
-    Vec::new(alloc)
-}
+/// Rows, and the first of them that breaks a rule.
+const BROKEN: [(&[Sketch], usize); 10] = [
+    (
+        &[
+            Sketch::User(1, 1),
+            Sketch::Counters(2),
+            Sketch::Space(1, 0, &[]),
+        ],
+        1,
+    ),
+    (&[Sketch::Counters(2), Sketch::Counters(3)], 1),
+    (&[Sketch::User(1, 1), Sketch::Space(1, 0, &[])], 2),
+    (
+        &[
+            Sketch::Counters(9),
+            Sketch::User(2, 1),
+            Sketch::User(2, 1),
+            Sketch::Space(1, 0, &[]),
+        ],
+        2,
+    ),
+    (
+        &[
+            Sketch::Counters(1),
+            Sketch::User(1, 1),
+            Sketch::Space(1, 0, &[]),
+        ],
+        1,
+    ),
+    (
+        &[
+            Sketch::Counters(2),
+            Sketch::User(1, 3),
+            Sketch::Space(1, 0, &[]),
+        ],
+        1,
+    ),
+    (
+        &[
+            Sketch::Counters(2),
+            Sketch::User(1, 1),
+            Sketch::Space(1, 4, &[]),
+        ],
+        2,
+    ),
+    (
+        &[
+            Sketch::Counters(2),
+            Sketch::User(1, 1),
+            Sketch::Space(1, 0, &[1, 1]),
+        ],
+        2,
+    ),
+    (
+        &[
+            Sketch::Counters(2),
+            Sketch::User(1, 1),
+            Sketch::Space(1, 0, &[5]),
+        ],
+        2,
+    ),
+    (
+        &[
+            Sketch::Counters(2),
+            Sketch::User(1, 1),
+            Sketch::Space(1, 0, &[]),
+            Sketch::Space(2, 0, &[]),
+        ],
+        3,
+    ),
+];
 
 #[test]
 fn the_rows_of_a_new_store_are_read_back(rt: HostRuntime) -> Result<(), Fail> {
@@ -65,53 +150,9 @@ fn the_rows_of_a_new_store_are_read_back(rt: HostRuntime) -> Result<(), Fail> {
 #[test]
 fn the_first_row_that_breaks_a_rule_is_named(rt: HostRuntime) -> Result<(), Fail> {
     let alloc = rt.alloc();
-    for (rows, row) in [
-        (
-            vec![in alloc; user(1, 1), counters(2), space(1, 0, none(alloc))]?,
-            1,
-        ),
-        (vec![in alloc; counters(2), counters(3)]?, 1),
-        (vec![in alloc; user(1, 1), space(1, 0, none(alloc))]?, 2),
-        (
-            vec![in alloc;
-                counters(9),
-                user(2, 1),
-                user(2, 1),
-                space(1, 0, none(alloc)),
-            ]?,
-            2,
-        ),
-        (
-            vec![in alloc; counters(1), user(1, 1), space(1, 0, none(alloc))]?,
-            1,
-        ),
-        (
-            vec![in alloc; counters(2), user(1, 3), space(1, 0, none(alloc))]?,
-            1,
-        ),
-        (
-            vec![in alloc; counters(2), user(1, 1), space(1, 4, none(alloc))]?,
-            2,
-        ),
-        (
-            vec![in alloc; counters(2), user(1, 1), space(1, 0, vec![in alloc; 1, 1]?)]?,
-            2,
-        ),
-        (
-            vec![in alloc; counters(2), user(1, 1), space(1, 0, vec![in alloc; 5]?)]?,
-            2,
-        ),
-        (
-            vec![in alloc;
-                counters(2),
-                user(1, 1),
-                space(1, 0, none(alloc)),
-                space(2, 0, none(alloc)),
-            ]?,
-            3,
-        ),
-    ] {
-        assert!(rt; Image::from_rows(alloc, &rows).err() == Some(RowsFault::Bad { row }));
+    for (sketches, row) in &BROKEN {
+        let rows = rows_of(alloc, sketches)?;
+        assert!(rt; Image::from_rows(alloc, &rows).err() == Some(RowsFault::Bad { row: *row }));
     }
     Ok(())
 }

@@ -181,6 +181,43 @@ fn cmd_body(alloc: Global) -> Result<Vec<u8>, Fail> {
     Ok(body)
 }
 
+/// The body of a record in few words.
+#[derive(Clone, Copy)]
+enum Sketch {
+    /// Counters whose next user has this number, and the last moment.
+    Counters(u64, u64),
+
+    /// User 1 with its home.
+    User(u64),
+
+    /// Namespace 1 with its length.
+    Space(u64),
+
+    /// A command that makes a folder.
+    Command,
+
+    /// No spelling.
+    Junk,
+}
+
+fn body_of(alloc: Global, sketch: Sketch) -> Result<Vec<u8>, Fail> {
+    match sketch {
+        Sketch::Counters(next, moment) => row_body(alloc, counters(1, next, moment)),
+        Sketch::User(home) => row_body(alloc, user(1, home)),
+        Sketch::Space(length) => row_body(alloc, space(alloc, length)),
+        Sketch::Command => cmd_body(alloc),
+        Sketch::Junk => Ok(Vec::from_slice(alloc, b"x")?),
+    }
+}
+
+fn bodies_of(alloc: Global, sketches: &[Sketch]) -> Result<Vec<Vec<u8>>, Fail> {
+    let mut bodies = Vec::new(alloc);
+    for sketch in sketches {
+        bodies.push(body_of(alloc, *sketch)?)?;
+    }
+    Ok(bodies)
+}
+
 /// A disk whose slot A has records of these bodies.
 fn disk_of(alloc: Global, bodies: &[Vec<u8>]) -> Result<MemDisk, Fail> {
     let mut records = Vec::new(alloc);
@@ -208,94 +245,38 @@ fn refusal(alloc: Global, disk: MemDisk) -> Result<(Option<StoreFault>, bool), F
     }
 }
 
-fn first(alloc: Global) -> Result<Vec<u8>, Fail> {
-    row_body(alloc, counters(1, 2, 0))
-}
+const FIRST: Sketch = Sketch::Counters(2, 0);
 
-fn second(alloc: Global) -> Result<Vec<u8>, Fail> {
-    row_body(alloc, user(1, 1))
-}
+const SECOND: Sketch = Sketch::User(1);
 
-fn third(alloc: Global) -> Result<Vec<u8>, Fail> {
-    row_body(alloc, space(alloc, 0))
-}
+const THIRD: Sketch = Sketch::Space(0);
+
+/// The records of a slot, and the place of the one that is damaged, if one is. The rows have 58, 27 and 39 bytes.
+const SLOTS: [(&[Sketch], Option<u64>); 12] = [
+    (&[FIRST, SECOND, THIRD], None),
+    (&[FIRST, SECOND, THIRD, Sketch::Command], None),
+    (&[SECOND, FIRST, THIRD], Some(27)),
+    (&[SECOND, THIRD], Some(66)),
+    (&[FIRST, SECOND], Some(58)),
+    (&[FIRST, Sketch::User(7), THIRD], Some(58)),
+    (&[Sketch::Counters(1, 0), SECOND, THIRD], Some(58)),
+    (&[FIRST, SECOND, Sketch::Space(1)], Some(85)),
+    (&[FIRST, SECOND, THIRD, Sketch::Command, SECOND], Some(165)),
+    (&[SECOND, FIRST, Sketch::Junk], Some(85)),
+    (&[Sketch::Counters(2, LAST_SECOND), SECOND, THIRD], None),
+    (
+        &[Sketch::Counters(2, LAST_SECOND + 1), SECOND, THIRD],
+        Some(0),
+    ),
+];
 
 #[test]
 fn records_that_break_a_rule_have_their_places(rt: HostRuntime) -> Result<(), Fail> {
     let alloc = rt.alloc();
-    for (bodies, place) in [
-        (
-            vec![in alloc; first(alloc)?, second(alloc)?, third(alloc)?]?,
-            None,
-        ),
-        (
-            vec![in alloc;
-                first(alloc)?,
-                second(alloc)?,
-                third(alloc)?,
-                cmd_body(alloc)?,
-            ]?,
-            None,
-        ),
-        (
-            vec![in alloc; second(alloc)?, first(alloc)?, third(alloc)?]?,
-            Some(27),
-        ),
-        (vec![in alloc; second(alloc)?, third(alloc)?]?, Some(66)),
-        (vec![in alloc; first(alloc)?, second(alloc)?]?, Some(58)),
-        (
-            vec![in alloc; first(alloc)?, row_body(alloc, user(1, 7))?, third(alloc)?]?,
-            Some(58),
-        ),
-        (
-            vec![in alloc;
-                row_body(alloc, counters(1, 1, 0))?,
-                second(alloc)?,
-                third(alloc)?,
-            ]?,
-            Some(58),
-        ),
-        (
-            vec![in alloc;
-                first(alloc)?,
-                second(alloc)?,
-                row_body(alloc, space(alloc, 1))?,
-            ]?,
-            Some(85),
-        ),
-        (
-            vec![in alloc;
-                first(alloc)?,
-                second(alloc)?,
-                third(alloc)?,
-                cmd_body(alloc)?,
-                second(alloc)?,
-            ]?,
-            Some(165),
-        ),
-        (
-            vec![in alloc; second(alloc)?, first(alloc)?, b"x".to_vec(alloc)?]?,
-            Some(85),
-        ),
-        (
-            vec![in alloc;
-                row_body(alloc, counters(1, 2, LAST_SECOND))?,
-                second(alloc)?,
-                third(alloc)?,
-            ]?,
-            None,
-        ),
-        (
-            vec![in alloc;
-                row_body(alloc, counters(1, 2, LAST_SECOND + 1))?,
-                second(alloc)?,
-                third(alloc)?,
-            ]?,
-            Some(0),
-        ),
-    ] {
+    for (sketches, place) in &SLOTS {
+        let bodies = bodies_of(alloc, sketches)?;
         let (found, stayed) = refusal(alloc, disk_of(alloc, &bodies)?)?;
-        let wanted = match place {
+        let wanted = match *place {
             None => None,
             Some(place) => Some(StoreFault::Damaged { place }),
         };
@@ -333,11 +314,8 @@ fn heads_have_their_answers(rt: HostRuntime) -> Result<(), Fail> {
 #[test]
 fn a_spent_counter_refuses_and_writes_nothing(rt: HostRuntime) -> Result<(), Fail> {
     let alloc = rt.alloc();
-    let bodies = vec![in alloc;
-        row_body(alloc, counters(SPENT_AT, 2, 0))?,
-        row_body(alloc, user(1, 1))?,
-        row_body(alloc, space(alloc, 0))?,
-    ]?;
+    let mut bodies = bodies_of(alloc, &[SECOND, THIRD])?;
+    bodies.insert(0, row_body(alloc, counters(SPENT_AT, 2, 0))?)?;
     let mut store = Store::open(alloc, disk_of(alloc, &bodies)?)
         .ok()
         .ok_or("the store opens")?;
