@@ -55,13 +55,13 @@ fn run(alloc: Global, disk: FuseDisk<MemDisk>) -> (u64, FuseDisk<MemDisk>) {
         Ok(store) => store,
         Err((disk, _)) => return (0, disk),
     };
-    let mut made = 0;
+    let mut made: u64 = 0;
     for path in ["/Docs", "/docs", "/e"] {
         if store.waits() {
             break;
         }
         match make(alloc, &mut store, path) {
-            Some(true) => made += 1,
+            Some(true) => made = made.saturating_add(1),
             Some(false) => {}
             None => break,
         }
@@ -93,7 +93,7 @@ fn a_stop_at_any_call_leaves_what_was_acknowledged(rt: HostRuntime) -> Result<()
                 .ok_or("the image opens")?;
             let found = standing(alloc, &store)?;
             assert!(rt;
-                found == Some(made) || found == Some(made + 1),
+                found == Some(made) || found == Some(made.saturating_add(1)),
                 "after {calls} calls, choice {choice}"
             );
             assert!(rt; calls < 23 || found == Some(2));
