@@ -4,7 +4,6 @@ use Rattle.fh_model.specs.declared.commands.Cmd.{Cmd}
 use Rattle.fh_model.specs.History.{Kept, state_of, state_after, with_more, next_of, reply_of, entered}
 use Rattle.fh_model.specs.State.{State}
 use Rattle.fh_model.specs.Step.{step}
-use Rattle.fh_model.specs.Connection.{Turn, told, gained_in, texts, gained}
 
 pub state_after-append : (s : State) (g h : List Cmd) → state_after s (g ++ h) ≡ state_after (state_after s g) h
 state_after-append s [] h = refl
@@ -12,26 +11,6 @@ state_after-append s (cmd ∷ g) h = state_after-append (step s cmd).state g h
 
 pub state_after_more : (s : State) (h : List Cmd) (cmd : Cmd) → state_after s (h ++ cmd ∷ []) ≡ (step (state_after s h) cmd).state
 state_after_more s h cmd = state_after-append s h (cmd ∷ [])
-
--- one more request adds its text
-pub texts_more : (s : State) (seat : ℕ) (turns : List Turn) (t : Turn)
-    → texts s seat (turns ++ t ∷ []) ≡ texts s seat turns ++ told (state_after s (gained s seat turns)) seat t
-texts_more s seat [] t = append-nil (told s seat t)
-texts_more s seat (u ∷ turns) t =
-    let next = state_after s (gained_in s seat u) in
-    ap (λ l. told s seat u ++ l) (texts_more next seat turns t)
-    ∙ sym (append_assoc (told s seat u) (texts next seat turns) (told (state_after next (gained next seat turns)) seat t))
-    ∙ ap (λ z. (told s seat u ++ texts next seat turns) ++ told z seat t) (sym (state_after-append s (gained_in s seat u) (gained next seat turns)))
-
--- and what the history gains by it
-pub gained_more : (s : State) (seat : ℕ) (turns : List Turn) (t : Turn)
-    → gained s seat (turns ++ t ∷ []) ≡ gained s seat turns ++ gained_in (state_after s (gained s seat turns)) seat t
-gained_more s seat [] t = append-nil (gained_in s seat t)
-gained_more s seat (u ∷ turns) t =
-    let next = state_after s (gained_in s seat u) in
-    ap (λ l. gained_in s seat u ++ l) (gained_more next seat turns t)
-    ∙ sym (append_assoc (gained_in s seat u) (gained next seat turns) (gained_in (state_after next (gained next seat turns)) seat t))
-    ∙ ap (λ z. (gained_in s seat u ++ gained next seat turns) ++ gained_in z seat t) (sym (state_after-append s (gained_in s seat u) (gained next seat turns)))
 
 -- the machine after more commands
 pub state_more : (kept : Kept) (more : List Cmd) → state_of (with_more kept more) ≡ state_after (state_of kept) more

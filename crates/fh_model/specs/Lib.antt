@@ -1,16 +1,12 @@
-pub mod Connection
 pub mod Content
-pub mod FolderRequests
 pub mod Folding
 pub mod History
-pub mod Json
 pub mod KeyOrder
 pub mod Keys
 pub mod Nodes
 pub mod PathRule
 pub mod Paths
 pub mod Places
-pub mod ReplyText
 pub mod Resolve
 pub mod RowRules
 pub mod Rows

@@ -1,9 +1,10 @@
 ghost use Rattle.std.specs.Prelude.{◌≡◌, [], List, Option};
 ghost use Rattle.fh_world.specs.Causes.{Rose};
 
-use crate::{CommitFault, Port};
+use crate::{CommitFault, Port, View};
 use fh_model::{Act, Cmd, NoMemory, Reply};
 use fh_world::Disk;
+use name_core::Image;
 use store_core::Store;
 
 /// The seat's number of a port that nobody shares.
@@ -33,7 +34,7 @@ impl<D: Disk> Direct<D> {
     }
 }
 
-impl<D: Disk> Port for Direct<D> {
+impl<D: Disk> View for Direct<D> {
     ghost use Rattle.std.specs.Prelude.{true};
     ghost use Rattle.host_seat.specs.Direct.{Ran, waiting_in};
     ghost use Rattle.host_seat.specs.RunLaws.{ran_nothing, ran_on};
@@ -54,6 +55,14 @@ impl<D: Disk> Port for Direct<D> {
 
     ghost on = { λ a b c first second. ran_on (record { place = D.place; tells = D.tells; seen = D.seen; may_leave = D.may_leave; moment = D.moment; left_since = D.left_since; faults = D.faults }) a.store b.store c.store first second };
 
+    #[tactic(auto, using(crate::proofs::Commits::looks_alone, crate::proofs::Commits::stays_alone))]
+    fn look(&mut self) -> Result<Image, NoMemory> {
+        let image = self.store.image().copy()?;
+        Ok(image)
+    }
+}
+
+impl<D: Disk> Port for Direct<D> {
     /// Where a command waits for the disk nothing more is let in: the answer is want of memory, the one that is free.
     fn commit(&mut self, at: u64, act: Act, bytes: &[u8]) -> Result<Reply, CommitFault> {
         if self.store.waits() {

@@ -1,10 +1,6 @@
-ghost use Rattle.std.specs.Prelude.{◌≡◌, ◌∷◌, ◌≤◌, [], List, ℕ, Bool, IfOk, OnOk, OnErr, IsErrOf};
-ghost use Rattle.cmd_codec.specs.Commands.{HasSpelling};
-ghost use Rattle.fh_world.specs.Causes.{Rose};
-ghost use Rattle.fh_model.specs.declared.commands.Cmd.{Cmd};
-ghost use Rattle.fh_model.specs.History.{Kept};
-ghost use Rattle.host_seat.specs.Port.{Commits, OthersEnter, Leaves};
+ghost use Rattle.std.specs.Prelude.{◌≡◌};
 
+use crate::View;
 use fh_model::{Act, NoMemory, Reply};
 
 /// Why a command was not let in.
@@ -28,40 +24,23 @@ impl From<NoMemory> for CommitFault {
 }
 
 /// The way from a connection to the machine.
-pub trait Port {
-    /// What it may have done from one value to another. What that is, is its own matter.
-    ghost went: { Self → Self → Type 0 };
-
-    /// The state that it started from, and the history that it has seen.
-    ghost seen: { Self → Kept };
-
-    /// The command that waits for the disk, if any.
-    ghost waits: { Self → List Cmd };
-
-    /// The seat's number, which its commands carry.
-    ghost number: { Self → ℕ };
-
-    /// How often it has failed.
-    ghost faults: { Self → ℕ };
-
-    /// Whether nobody else lets commands enter.
-    ghost alone: { Bool };
+pub trait Port: View {
+    ghost use Rattle.std.specs.Prelude.{◌≡◌, ◌∷◌, ◌≤◌, [], IfOk, OnOk, OnErr, IsErrOf};
+    ghost use Rattle.cmd_codec.specs.Commands.{HasSpelling};
+    ghost use Rattle.fh_world.specs.Causes.{Rose};
+    ghost use Rattle.host_seat.specs.Port.{Commits, OthersEnter, Leaves};
 
     /// Lets the command of an act enter, or refuses it, at a point that begins with all that was seen. `at` is the
     /// clock's second, at most `LAST_SECOND`, the act's texts are shorter than 2^32 bytes, and `bytes` are its data. At
     /// a fault nothing of its own entered, but at `Disk` its command may be left waiting.
     fn commit(&mut self, at: u64, act: Act, bytes: &[u8]) -> Result<Reply, CommitFault>
-        requires spelled { HasSpelling (record { seat = number self.old; at = at; act = act }) }
-        ensures point { IfOk result (λ reply. Commits alone (seen self.old) (seen self.new) (record { seat = number self.old; at = at; act = act }) reply) }
-        ensures settled { OnOk result (Leaves (waits self.old) [] (waits self.new)) }
-        ensures fault { OnErr result (OthersEnter alone (seen self.old) (seen self.new)) }
-        ensures disk { IsErrOf result CommitFault.Disk → Rose (faults self.old) (faults self.new) × Leaves (waits self.old) (record { seat = number self.old; at = at; act = act } ∷ []) (waits self.new) }
-        ensures memory { IsErrOf result CommitFault.NoMemory → Leaves (waits self.old) [] (waits self.new) }
-        ensures number { number self.new ≡ number self.old }
-        ensures later { faults self.old ≤ faults self.new }
-        ensures went { went self.old self.new };
-
-    ghost nothing: { (a : Self) → went a a };
-
-    ghost on: { (a b c : Self) → went a b → went b c → went a c };
+        requires spelled { HasSpelling (record { seat = Self.number self.old; at = at; act = act }) }
+        ensures point { IfOk result (λ reply. Commits Self.alone (Self.seen self.old) (Self.seen self.new) (record { seat = Self.number self.old; at = at; act = act }) reply) }
+        ensures settled { OnOk result (Leaves (Self.waits self.old) [] (Self.waits self.new)) }
+        ensures fault { OnErr result (OthersEnter Self.alone (Self.seen self.old) (Self.seen self.new)) }
+        ensures disk { IsErrOf result CommitFault.Disk → Rose (Self.faults self.old) (Self.faults self.new) × Leaves (Self.waits self.old) (record { seat = Self.number self.old; at = at; act = act } ∷ []) (Self.waits self.new) }
+        ensures memory { IsErrOf result CommitFault.NoMemory → Leaves (Self.waits self.old) [] (Self.waits self.new) }
+        ensures number { Self.number self.new ≡ Self.number self.old }
+        ensures later { Self.faults self.old ≤ Self.faults self.new }
+        ensures went { Self.went self.old self.new };
 }

@@ -164,7 +164,7 @@ large_request bytes m r x = record {
   body = large_body _ x.middle m r.content x.body;
 }
 
-ends_more : (bytes m : List ℕ) (e : Final) → IsSettled e → EndsAs bytes e → EndsAs (bytes ++ m) e
+pub ends_more : (bytes m : List ℕ) (e : Final) → IsSettled e → EndsAs bytes e → EndsAs (bytes ++ m) e
 ends_more bytes m is_bad _ (inl never) = inl (never_more bytes m never)
 ends_more bytes m is_bad _ (inr (inl misframed)) = inr (inl (misframed_more bytes m misframed))
 ends_more bytes m is_bad _ (inr (inr x)) = inr (inr (x.0, bad_request bytes m x.0 x.1))

@@ -48,13 +48,21 @@ one_begin bytes r q e f x y =
         let make : RequestHead → List ℕ → Request = λ a b. record { head = a; content = b } in
         ap (λ a. make a r.content) h ∙ ap (λ b. make q.head b) c
 
+done_same : (a b : List ℕ) → done a ≡ done b → a ≡ b
+done_same a b e = cc
+
+-- two whole requests at the front of the same bytes are one
+pub one_request : (bytes rest after : List ℕ) (r q : Request) → BeginsWithBody bytes r (done rest) → BeginsWithBody bytes q (done after) → (r ≡ q) × (rest ≡ after)
+unfolding SameBody
+one_request bytes rest after r q x y = let same = one_begin bytes r q (done rest) (done after) x y in (same.0, done_same rest after same.1)
+
 framed_or_not : (bytes : List ℕ) (r : Request) (e : Ending) → BeginsWithBody bytes r e → IsMisframed bytes → ⊥
 framed_or_not bytes r e x y =
     let heads = (one_ending_holds bytes).one_head r.head y.head x.middle y.rest x.begins y.begins in
     let both : Some x.framing ≡ None = sym x.framed ∙ ap framing_of heads.0 ∙ y.unframed in
     cc
 
-done_or_ends : (bytes rest : List ℕ) (r : Request) (e : Final) → BeginsWithBody bytes r (done rest) → EndsAs bytes e → ⊥
+pub done_or_ends : (bytes rest : List ℕ) (r : Request) (e : Final) → BeginsWithBody bytes r (done rest) → EndsAs bytes e → ⊥
 unfolding SameBody
 done_or_ends bytes rest r at_end x ends = no_head r.head bytes x.middle ends x.begins
 done_or_ends bytes rest r is_cut x (inl c) = (one_ending_holds bytes).head_or_cut r.head x.middle x.begins c
@@ -164,9 +172,6 @@ pub one_reading_holds : (bytes : List ℕ) → OneReading bytes
 unfolding SameBody
 one_reading_holds bytes rs qs left right e f x y = go bytes rs qs left right e f x y
   where
-    done_same : (a b : List ℕ) → done a ≡ done b → a ≡ b
-    done_same a b e = cc
-
     go : (bytes : List ℕ) (rs qs : List Request) (left right : List ℕ) (e f : Final) → Requests bytes rs left e → Requests bytes qs right f
         → (rs ≡ qs) × (left ≡ right) × ((e ≡ f) ⊎ IsOpenTarget left)
     go _ _ _ _ _ _ _ (none bytes e x) (none _ f y) = (refl, refl, finals bytes e f x y)

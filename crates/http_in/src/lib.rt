@@ -44,6 +44,7 @@ pub use limits::{
     BODY_MAX_BYTES, CHUNK_LINE_MAX_BYTES, CONTENT_MAX_BYTES, HEAD_MAX_BYTES, HEAD_MAX_LINES,
     LENGTH_MAX_DIGITS,
 };
+pub use parts::is_content_target;
 pub use place::{Place, State};
 pub use reader::Reader;
 

@@ -59,7 +59,7 @@ fn frame(stated: Option<&[u8]>, once: bool, coded: Option<&[u8]>) -> Option<Leng
 }
 
 /// Whether the bodies of this route are the content of a file.
-fn is_content(target: &[u8]) -> bool
+pub fn is_content_target(target: &[u8]) -> bool
     ensures { result ≡ is_content_target target.now }
 {
     target == b"/2/files/upload".as_slice()
@@ -72,7 +72,7 @@ fn is_content(target: &[u8]) -> bool
 pub(crate) fn body_limit(target: &[u8]) -> u64
     ensures { result ≡ limit_of target.now }
 {
-    if is_content(target) {
+    if is_content_target(target) {
         CONTENT_MAX_BYTES
     } else {
         BODY_MAX_BYTES

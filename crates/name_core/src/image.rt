@@ -150,8 +150,8 @@ impl Image {
         self.machine.resolve(user, path)
     }
 
-    /// The number of the user whose token this is, which takes no memory.
-    pub fn token_user(&self, token: &Text) -> Option<u64>
+    /// The number of the user whose token these bytes are, which takes no memory.
+    pub fn token_user(&self, token: &[u8]) -> Option<u64>
         ensures { result ≡ token_user (state_of self.now) token.now }
     {
         self.machine.token_user(token)

@@ -165,14 +165,14 @@ impl Machine {
         }
     }
 
-    fn user_with(&self, token: &Text) -> Option<&User>
+    fn user_with(&self, token: &[u8]) -> Option<&User>
         ensures { option_copied result ≡ find (has_token token.now) self.now.users }
     {
         self.users.iter().find(|user| has_token(user, token))
     }
 
     /// The number of the user whose token this is.
-    pub(crate) fn token_user(&self, token: &Text) -> Option<u64>
+    pub(crate) fn token_user(&self, token: &[u8]) -> Option<u64>
         ensures { result ≡ token_user self.now token.now }
     {
         match self.user_with(token) {
@@ -374,12 +374,12 @@ fn any_is_spent(spaces: &[Space]) -> bool
     spaces.iter().any(|space| space.is_spent())
 }
 
-fn has_token(user: &User, token: &Text) -> bool
+fn has_token(user: &User, token: &[u8]) -> bool
     ensures { result ≡ has_token token.now user.now }
 {
     match &user.token {
         None => false,
-        Some(text) => text.as_bytes() == token.as_bytes(),
+        Some(text) => text.as_bytes() == token,
     }
 }
 

@@ -200,9 +200,9 @@ fn a_token_is_of_one_user_as_a_whole(rt: HostRuntime) -> Result<(), Fail> {
     };
     let rows = vec![in rt.alloc(); counters, first, second, space(rt, 1), space(rt, 2)]?;
     let image = Image::from_rows(rt.alloc(), &rows)?;
-    assert!(rt; image.token_user(&text(rt, "abcdefgh")?) == Some(2));
-    assert!(rt; image.token_user(&text(rt, "abcdefg")?) == None);
-    assert!(rt; image.token_user(&text(rt, "abcdefghi")?) == None);
+    assert!(rt; image.token_user(b"abcdefgh") == Some(2));
+    assert!(rt; image.token_user(b"abcdefg") == None);
+    assert!(rt; image.token_user(b"abcdefghi") == None);
     assert!(rt; image.home_of(2) == Some(2));
     assert!(rt; image.home_of(3) == None);
     Ok(())

@@ -1,186 +1,231 @@
--- An input that spells requests and has an ending is answered to that ending, where nothing fails.
-use Rattle.std.proofs.Common.{◌≡◌, ◌≢◌, ◌⊎◌, ℕ, ◌+◌, ◌<◌, ◌≤◌, List, [], ◌∷◌, ◌++◌, length, flat_map, Option, None, Some, Bool, true, refl, sym, ◌∙◌, ap, subst, append_assoc, append-nil, arith, inl, inr, length-append}
+-- Where no fault rose, the end of a connection is the one that its input spells, or memory was wanting. Bytes that end in a
+-- request target whose text is broken may be cut or bad.
+use Rattle.std.proofs.Common.{◌≡◌, ℕ, ◌+◌, ◌≤◌, ◌<◌, List, [], ◌∷◌, ◌++◌, length, if◌then◌else◌, Option, None, Some, refl, sym, ◌∙◌, ap, subst, append_assoc, append-nil, arith, length-append, inl, inr, ◌⊎◌, Bool, true, false}
 use Rattle.std.specs.Prelude.{All}
-use Rattle.std.specs.List.{AllByRecursion}
-use Rattle.std.proofs.lemmas.List.Elements.{recursion_from_All, All-from_recursion}
-use Rattle.std.specs.Char.{is_ascii_alphanumeric}
+use Rattle.std.proofs.lemmas.List.Elements.{All-head, All-tail}
+use Rattle.std.specs.Io.KnownBytes.{IsAtEnd, prepend_known}
 use Rattle.fh_world.specs.Causes.{Rose}
+use Rattle.fh_model.specs.declared.commands.Cmd.{Cmd}
+use Rattle.http_in.specs.Bodies.{done}
+use Rattle.http_in.specs.Framing.{IsMisframed}
+use Rattle.http_in.specs.Heads.{IsBad, IsOpenTarget}
+use Rattle.http_in.specs.Requests.{Request, Requests, none, more, Final, at_end, is_cut, is_bad, is_over, EndsAs}
+use Rattle.http_in.proofs.MoreBytes.{ends_more}
+use Rattle.http_in.specs.Unique.{IsSettled}
+use Rattle.http_in.proofs.OneReading.{one_request, done_or_ends, one_reading_holds}
+use Rattle.session_rules.specs.Asked.{asks_last}
+use Rattle.session_rules.specs.Connection.{Turn}
+use Rattle.session_rules.specs.Replies.{Said}
+use Rattle.session_http.specs.Begun.{Begins, stay, step, IsBadHead, IsCutShort, IsRefused}
+use Rattle.session_http.specs.Ends.{GoOn, EndsLast, Served}
+use Rattle.session_http.specs.Spell.{end_of, ending_of, heeded, Spells}
+use Rattle.session_http.specs.Talk.{Terms, Moment, Talk, requests}
 use Rattle.session_http.specs.declared.conn.ConnEnd.{ConnEnd}
 use Rattle.session_http.specs.declared.conn.ConnEnd.TheVariants.{Ended, Cut, Bad, ReadFault, WriteFault, DiskFault, NoMemory, Spent}
-use Rattle.std.specs.Io.KnownBytes.{prepend_known, IsAtEnd}
-use Rattle.fh_model.specs.declared.commands.Cmd.{Cmd}
-use Rattle.fh_model.specs.FolderRequests.{IsName, IsCut, IsBad, request_text}
-use Rattle.fh_model.specs.Connection.{Turn}
-use Rattle.session_http.specs.Parse.{parse}
-use Rattle.session_http.specs.Talk.{Terms, Moment, Talk, Served, spelled, IsTurn}
-use Rattle.session_http.specs.Spell.{spelling, IsEnding, Spells}
-use Rattle.session_http.proofs.Grammar.{parse_begins}
-
--- no request begins another
-pub one_form : (token a b x y : List ℕ) → IsName a → IsName b → request_text token a ++ x ≡ request_text token b ++ y → (a ≡ b) × (x ≡ y)
-one_form token a b x y ia ib e =
-    let s : Some (a, x) ≡ Some (b, y) = sym (parse_begins token a x ia) ∙ ap (parse token) e ∙ parse_begins token b y ib in
-    let p : (a, x) ≡ (b, y) = cc in
-    (ap (λ (q : List ℕ × List ℕ). q.0) p, ap (λ (q : List ℕ × List ℕ). q.1) p)
-
--- nothing begins with a request
-no_request : (token a x : List ℕ) → IsName a → [] ≡ request_text token a ++ x → ⊥
-no_request token a x is e =
-    let p : parse token [] ≡ Some (a, x) = ap (parse token) e ∙ parse_begins token a x is in cc
-
-more_nil : (xs ys : List ℕ) → xs ++ ys ≡ [] → ys ≡ []
-more_nil [] ys e = e
-more_nil (x ∷ xs) ys e = cc
-
-first_nil : (xs ys : List ℕ) → xs ++ ys ≡ [] → xs ≡ []
-first_nil [] ys e = refl
-first_nil (x ∷ xs) ys e = cc
-
-letter_a : IsName (97 ∷ [])
-letter_a = record { some = omega arith; few = omega arith; each = All-from_recursion (λ x. is_ascii_alphanumeric x ≡ true) (97 ∷ []) (refl, tt) }
-
--- bytes that begin with a request are no ending
-cut_begins : (token tail a x : List ℕ) → IsName a → tail ≡ request_text token a ++ x → IsCut token tail → ⊥
-cut_begins token tail a x is e cut =
-    let same = one_form token a cut.1 (x ++ cut.2) [] is cut.3
-    (sym (append_assoc (request_text token a) x cut.2) ∙ ap (λ l. l ++ cut.2) (sym e) ∙ cut.5 ∙ sym (append-nil (request_text token cut.1))) in
-    cut.4 (more_nil x cut.2 same.1)
-
-bad_begins : (token tail a x : List ℕ) → IsName a → tail ≡ request_text token a ++ x → IsBad token tail → ⊥
-bad_begins token tail a x is e bad = bad [] a x is (append-nil tail ∙ e)
-
--- and no continuation of bad bytes begins with one
-bad_front : (token rest left a x : List ℕ) → IsName a → rest ++ left ≡ request_text token a ++ x → IsBad token rest → ⊥
-bad_front token rest left a x is e bad = bad left a x is e
-
--- nothing is not bad
-nothing_good : (token tail : List ℕ) → tail ≡ [] → IsBad token tail → ⊥
-nothing_good token tail none bad =
-    let r = request_text token (97 ∷ []) in
-    bad r (97 ∷ []) [] letter_a (ap (λ l. l ++ r) none ∙ sym (append-nil r))
-
--- bytes that a continuation makes a request are not bad
-cut_good : (token rest left tail : List ℕ) → rest ++ left ≡ tail → IsCut token tail → IsBad token rest → ⊥
-cut_good token rest left tail e cut bad =
-    bad (left ++ cut.2) cut.1 [] cut.3 (sym (append_assoc rest left cut.2) ∙ ap (λ l. l ++ cut.2) e ∙ cut.5 ∙ sym (append-nil (request_text token cut.1)))
-
--- an ending begins with no request
-ending_begins : (ending : ConnEnd) (token tail a x : List ℕ) → IsName a → tail ≡ request_text token a ++ x → IsEnding ending token tail → ⊥
-ending_begins Ended token tail a x is e none = no_request token a x is (sym none ∙ e)
-ending_begins Cut token tail a x is e cut = cut_begins token tail a x is e cut
-ending_begins Bad token tail a x is e bad = bad_begins token tail a x is e bad
-ending_begins ReadFault token tail a x is e h = absurd h
-ending_begins WriteFault token tail a x is e h = absurd h
-ending_begins NoMemory token tail a x is e h = absurd h
-ending_begins DiskFault token tail a x is e h = absurd h
-ending_begins Spent token tail a x is e h = absurd h
-
--- the requests that are still to be read
-pub record Aligned (token : List ℕ) (turns : List Turn) (rest tail : List ℕ) (names : List (List ℕ)) : Type 0 where
-  pub later : List (List ℕ)
-  pub fewer : length turns ≤ length names
-  pub named : AllByRecursion IsName later
-  pub is : rest ≡ spelling token later ++ tail
-
--- where requests that were read stand at the front of requests and an ending, the rest of these follow
-aligned : (ending : ConnEnd) (token : List ℕ) (turns : List Turn) (rest tail : List ℕ) (names : List (List ℕ)) → IsEnding ending token tail
-    → AllByRecursion (λ t. IsName t.asked) turns → AllByRecursion IsName names
-    → spelled token turns ++ rest ≡ spelling token names ++ tail → Aligned token turns rest tail names
-aligned ending token [] rest tail names is ts ns e = record { later = names; fewer = omega arith; named = ns; is = e }
-aligned ending token (t ∷ turns) rest tail [] is ts ns e =
-    absurd (ending_begins ending token tail t.asked (spelled token turns ++ rest) ts.0 (sym e ∙ append_assoc (request_text token t.asked) (spelled token turns) rest) is)
-aligned ending token (t ∷ turns) rest tail (n ∷ names) is ts ns e =
-    let same = one_form token t.asked n (spelled token turns ++ rest) (spelling token names ++ tail) ts.0 ns.0
-    (sym (append_assoc (request_text token t.asked) (spelled token turns) rest) ∙ e ∙ append_assoc (request_text token n) (spelling token names) tail) in
-    let r = aligned ending token turns rest tail names is ts.1 ns.1 same.1 in
-    record { later = r.later; fewer = omega (arith, r.fewer); named = r.named; is = r.is }
+use Rattle.session_http.proofs.Begun.{begins_more}
 
 known_split : (o : Option (List ℕ)) (x y : List ℕ) → Some y ≡ prepend_known x o → (l : List ℕ) × (o ≡ Some l) × (y ≡ x ++ l)
 known_split None x y e = cc
 known_split (Some l) x y e = (l, refl, cc)
 
-named_turns : (t : Terms) (turns : List Turn) → AllByRecursion (IsTurn t) turns → AllByRecursion (λ turn. IsName turn.asked) turns
-named_turns t [] h = tt
-named_turns t (turn ∷ turns) h = (h.0.named, named_turns t turns h.1)
-
 at_end_nil : (o : Option (List ℕ)) (l : List ℕ) → o ≡ Some l → IsAtEnd o → l ≡ []
 at_end_nil None l e h = cc
 at_end_nil (Some x) l e h = let s : x ≡ l = cc in sym s ∙ h
 
--- what was read stands at the front of the requests
-front : (t : Terms) (before now : Moment) (turns : List Turn) (behind : List Cmd) (rest text : List ℕ) (names : List (List ℕ)) (ending : ConnEnd)
-    → Talk t before now turns behind rest text → (s : Spells before.left t.token names ending)
-    → (l : List ℕ) × (now.left ≡ Some l) × Aligned t.token turns (rest ++ l) s.tail names
-front t before now turns behind rest text names ending h s =
-    let k = known_split now.left (spelled t.token turns ++ rest) (spelling t.token names ++ s.tail) (sym s.bytes ∙ h.took) in (
-      k.0,
-      k.1,
-      aligned ending t.token turns (rest ++ k.0) s.tail names s.ends (named_turns t turns (recursion_from_All (IsTurn t) turns h.each)) (recursion_from_All IsName names s.named)
-          (sym (append_assoc (spelled t.token turns) rest k.0) ∙ sym k.2),
-    )
+-- ---- the requests that were read stand at the front of those that were sent
 
-too_many : (a b c n : ℕ) → b ≡ a + c → a ≡ 1000000 → b ≤ n → n < 1000000 → ⊥
-too_many a b c n e f g h = omega arith
+-- those that were sent behind them
+pub record Sent (rest : List ℕ) (read sent : List Request) (left : List ℕ) (e : Final) : Type 0 where
+  pub later : List Request
+  pub all : sent ≡ read ++ later
+  pub splits : Requests rest later left e
 
--- the input was read to its end with nothing unread
-ended_is : (ending : ConnEnd) (token tail : List ℕ) (later : List (List ℕ)) → AllByRecursion IsName later → [] ≡ spelling token later ++ tail → IsEnding ending token tail → Ended ≡ ending
-ended_is ending token tail (n ∷ later) ns e is = absurd (no_request token n (spelling token later ++ tail) ns.0 (e ∙ append_assoc (request_text token n) (spelling token later) tail))
-ended_is Ended token tail [] ns e is = refl
-ended_is Cut token tail [] ns e is = absurd (is.0 (sym e))
-ended_is Bad token tail [] ns e is = absurd (nothing_good token tail (sym e) is)
-ended_is ReadFault token tail [] ns e is = absurd is
-ended_is WriteFault token tail [] ns e is = absurd is
-ended_is NoMemory token tail [] ns e is = absurd is
-ended_is DiskFault token tail [] ns e is = absurd is
-ended_is Spent token tail [] ns e is = absurd is
+pub sent_behind : (bytes rest left : List ℕ) (read sent : List Request) (e : Final) → Begins bytes read rest → Requests bytes sent left e → Sent rest read sent left e
+sent_behind _ _ left _ sent e (stay bytes) splits = record { later = sent; all = refl; splits = splits }
+sent_behind _ _ _ _ _ _ (step bytes after rest r rs begins next) (none _ e ends) = absurd (done_or_ends bytes after r e begins ends)
+sent_behind _ _ _ _ _ _ (step bytes after rest r rs begins next) (more _ after' left q qs e begins' next') =
+    let same = one_request bytes after after' r q begins begins' in
+    let P : List ℕ → Type 0 = λ b. Requests b qs left e in
+    let found = sent_behind after rest left rs qs e next (subst P (sym same.1) next') in
+    record {
+      later = found.later;
+      all = ap (λ (h : Request). h ∷ qs) (sym same.0) ∙ ap (λ (t : List Request). r ∷ t) found.all;
+      splits = found.splits;
+    }
 
--- or with a part of a request unread
-cut_is : (ending : ConnEnd) (token rest tail : List ℕ) (later : List (List ℕ)) → AllByRecursion IsName later → rest ≡ spelling token later ++ tail → IsCut token rest → IsEnding ending token tail → Cut ≡ ending
-cut_is ending token rest tail (n ∷ later) ns e cut is =
-    absurd (cut_begins token rest n (spelling token later ++ tail) ns.0 (e ∙ append_assoc (request_text token n) (spelling token later) tail) cut)
-cut_is Ended token rest tail [] ns e cut is = absurd (cut.0 (e ∙ is))
-cut_is Cut token rest tail [] ns e cut is = refl
-cut_is Bad token rest tail [] ns e cut is = absurd (cut_good token tail [] rest (append-nil tail ∙ sym e) cut is)
-cut_is ReadFault token rest tail [] ns e cut is = absurd is
-cut_is WriteFault token rest tail [] ns e cut is = absurd is
-cut_is NoMemory token rest tail [] ns e cut is = absurd is
-cut_is DiskFault token rest tail [] ns e cut is = absurd is
-cut_is Spent token rest tail [] ns e cut is = absurd is
+pub front : (t : Terms) (before now : Moment) (turns : List Turn) (behind : List Cmd) (rest text all : List ℕ) → Talk t before now turns behind rest text
+    → before.unread ≡ [] → before.left ≡ Some all → (l : List ℕ) × (now.left ≡ Some l) × Begins all (requests turns) (rest ++ l)
+front t before now turns behind rest text all h new is =
+    let k = known_split now.left h.bytes all (sym is ∙ h.took) in
+    let P : List ℕ → Type 0 = λ b. Begins b (requests turns) (rest ++ k.0) in
+    let same : (before.unread ++ h.bytes) ++ k.0 ≡ all = ap (λ (u : List ℕ). (u ++ h.bytes) ++ k.0) new ∙ sym k.2 in
+    (k.0, k.1, subst P same (begins_more (before.unread ++ h.bytes) rest k.0 (requests turns) h.begins))
 
--- or bytes were read that begin no request
-bad_is : (ending : ConnEnd) (token rest left tail : List ℕ) (later : List (List ℕ)) → AllByRecursion IsName later → rest ++ left ≡ spelling token later ++ tail → IsBad token rest → IsEnding ending token tail → Bad ≡ ending
-bad_is ending token rest left tail (n ∷ later) ns e bad is =
-    absurd (bad_front token rest left n (spelling token later ++ tail) ns.0 (e ∙ append_assoc (request_text token n) (spelling token later) tail) bad)
-bad_is Ended token rest left tail [] ns e bad is = absurd (nothing_good token rest (first_nil rest left (e ∙ is)) bad)
-bad_is Cut token rest left tail [] ns e bad is = absurd (cut_good token rest left tail e is bad)
-bad_is Bad token rest left tail [] ns e bad is = refl
-bad_is ReadFault token rest left tail [] ns e bad is = absurd is
-bad_is WriteFault token rest left tail [] ns e bad is = absurd is
-bad_is NoMemory token rest left tail [] ns e bad is = absurd is
-bad_is DiskFault token rest left tail [] ns e bad is = absurd is
-bad_is Spent token rest left tail [] ns e bad is = absurd is
+-- ---- by who asks that the connection end
 
--- where no fault rose, the end is the input's ending, or memory was wanting
-pub complete : (end : ConnEnd) (t : Terms) (before now : Moment) (names : List (List ℕ)) (ending : ConnEnd)
-    → Served t before now end → Spells before.left t.token names ending
-    → (Rose before.read_faults now.read_faults → ⊥) → (Rose before.write_faults now.write_faults → ⊥) → (Rose before.port_faults now.port_faults → ⊥)
-    → (end ≡ ending) ⊎ (end ≡ NoMemory)
-complete DiskFault t before now names ending h s r w d = absurd (d h.ends.2)
-complete NoMemory t before now names ending h s r w d = inr refl
-complete ReadFault t before now names ending h s r w d = absurd (r h.ends.2)
-complete WriteFault t before now names ending h s r w d = absurd (w h.ends.1)
-complete Ended t before now names ending h s r w d =
-    let f = front t before now (h.answered ++ h.broken) h.behind h.rest _ names ending h.talk s in
-    let nil = at_end_nil now.left f.0 f.1 h.ends.3 in
-    let none : [] ≡ h.rest ++ f.0 = sym (ap (λ l. l ++ f.0) h.ends.2 ∙ nil) in
-    inl (ended_is ending t.token s.tail f.2.later f.2.named (none ∙ f.2.is) s.ends)
-complete Cut t before now names ending h s r w d =
-    let f = front t before now (h.answered ++ h.broken) h.behind h.rest _ names ending h.talk s in
-    let nil = at_end_nil now.left f.0 f.1 h.ends.3 in
-    inl (cut_is ending t.token h.rest s.tail f.2.later f.2.named (sym (append-nil h.rest) ∙ ap (λ l. h.rest ++ l) (sym nil) ∙ f.2.is) h.ends.2 s.ends)
-complete Bad t before now names ending h s r w d =
-    let f = front t before now (h.answered ++ h.broken) h.behind h.rest _ names ending h.talk s in
-    inl (bad_is ending t.token h.rest f.0 s.tail f.2.later f.2.named f.2.is h.ends.2 s.ends)
-complete Spent t before now names ending h s r w d =
-    let f = front t before now (h.answered ++ h.broken) h.behind h.rest _ names ending h.talk s in
-    absurd (too_many (length h.answered) (length (h.answered ++ h.broken)) (length h.broken) (length names) (length-append h.answered h.broken) h.ends.0 f.2.fewer s.few)
+if_not : {X : Type 0} (b : Bool) (x y : X) → b ≡ false → (if b then x else y) ≡ y
+if_not false x y e = refl
+if_not true x y e = cc
+
+if_so : {X : Type 0} (b : Bool) (x y : X) → b ≡ true → (if b then x else y) ≡ x
+if_so true x y e = refl
+if_so false x y e = cc
+
+-- those that don't ask are passed over
+ending_goes : (turns : List Turn) (later : List Request) (e : Final) → GoOn turns → ending_of (requests turns ++ later) e ≡ ending_of later e
+ending_goes [] later e h = refl
+ending_goes (turn ∷ turns) later e h =
+    if_not (asks_last turn.asked.head) Ended (ending_of (requests turns ++ later) e) (All-head (λ u. asks_last u.asked.head ≡ false) turn turns h)
+    ∙ ending_goes turns later e (All-tail (λ u. asks_last u.asked.head ≡ false) turn turns h)
+
+heeded_goes : (turns : List Turn) (later : List Request) → GoOn turns → length turns ≤ length (heeded (requests turns ++ later))
+heeded_goes [] later h = omega arith
+heeded_goes (turn ∷ turns) later h =
+    let tail = heeded_goes turns later (All-tail (λ u. asks_last u.asked.head ≡ false) turn turns h) in
+    let same = if_not (asks_last turn.asked.head) [] (heeded (requests turns ++ later)) (All-head (λ u. asks_last u.asked.head ≡ false) turn turns h) in
+    omega (arith, tail, ap length same)
+
+-- and the one that asks is the last that is heeded
+ending_last : (turns : List Turn) (later : List Request) (e : Final) → EndsLast turns → ending_of (requests turns ++ later) e ≡ Ended
+ending_last turns later e h = ap (λ (l : List Turn). ending_of (requests l ++ later) e) h.2 ∙ go h.0 h.3 where
+  go : (earlier : List Turn) → GoOn earlier → ending_of (requests (earlier ++ h.1 ∷ []) ++ later) e ≡ Ended
+  go [] g = if_so (asks_last h.1.asked.head) Ended (ending_of later e) h.4
+  go (turn ∷ earlier) g =
+      if_not (asks_last turn.asked.head) Ended (ending_of (requests (earlier ++ h.1 ∷ []) ++ later) e) (All-head (λ u. asks_last u.asked.head ≡ false) turn earlier g)
+      ∙ go earlier (All-tail (λ u. asks_last u.asked.head ≡ false) turn earlier g)
+
+heeded_last : (turns : List Turn) (later : List Request) → EndsLast turns → length turns ≤ length (heeded (requests turns ++ later))
+heeded_last turns later h =
+    let P : List Turn → Type 0 = λ l. length l ≤ length (heeded (requests l ++ later)) in
+    subst P (sym h.2) (go h.0 h.3) where
+  go : (earlier : List Turn) → GoOn earlier → length (earlier ++ h.1 ∷ []) ≤ length (heeded (requests (earlier ++ h.1 ∷ []) ++ later))
+  go [] g = omega arith
+  go (turn ∷ earlier) g =
+      let tail = go earlier (All-tail (λ u. asks_last u.asked.head ≡ false) turn earlier g) in
+      let same = if_not (asks_last turn.asked.head) [] (heeded (requests (earlier ++ h.1 ∷ []) ++ later)) (All-head (λ u. asks_last u.asked.head ≡ false) turn earlier g) in
+      omega (arith, tail, ap length same)
+
+-- ---- the endings of what was read behind them
+
+cut_ends : (rest before : List ℕ) → IsCutShort rest before → EndsAs rest is_cut
+cut_ends rest before (inl h) = inl h.0
+cut_ends rest before (inr h) = inr (h.0, h.1)
+
+bad_heads : (rest before : List ℕ) (it : Said) → IsBadHead rest before it → EndsAs rest is_bad
+bad_heads rest before it h = by h.0 where
+  by : (IsBad rest ⊎ IsMisframed rest) → EndsAs rest is_bad
+  by (inl never) = inl never
+  by (inr misframed) = inr (inl misframed)
+
+-- bad, or past a limit
+refused_ends : (rest before : List ℕ) (it : Said) → IsRefused rest before it → EndsAs rest is_bad ⊎ EndsAs rest is_over
+refused_ends rest before it (inl h) = inl (bad_heads rest before it h)
+refused_ends rest before it (inr (inl h)) = inr (inl h.0)
+refused_ends rest before it (inr (inr (inl h))) = inl (inr (inr (h.0, h.1)))
+refused_ends rest before it (inr (inr (inr h))) = inr (inr (h.0, h.1))
+
+-- whatever follows
+settled_more : (rest l : List ℕ) (e : Final) → IsSettled e → EndsAs rest e → EndsAs (rest ++ l) e
+settled_more rest l e settled ends = ends_more rest l e settled ends
+
+module _ (t : Terms) (before now : Moment) (ending : ConnEnd) (turns : List Turn) (rest l : List ℕ) (s : Spells before.left ending)
+    (b : Sent (rest ++ l) (requests turns) s.sent s.rest s.final) where
+  -- all that was sent is read
+  by_final : (e : Final) → GoOn turns → EndsAs (rest ++ l) e → (end_of e ≡ ending) ⊎ IsOpenTarget s.rest
+  by_final e going ends = settle one.2 where
+    one : ([] ≡ b.later) × ((rest ++ l) ≡ s.rest) × ((e ≡ s.final) ⊎ IsOpenTarget (rest ++ l))
+    one = one_reading_holds (rest ++ l) [] b.later (rest ++ l) s.rest e s.final (none (rest ++ l) e ends) b.splits
+    settle : ((e ≡ s.final) ⊎ IsOpenTarget (rest ++ l)) → (end_of e ≡ ending) ⊎ IsOpenTarget s.rest
+    settle (inr apart) = inr (subst IsOpenTarget one.1 apart)
+    settle (inl same) =
+        inl (ap end_of same ∙ ap (λ (rs : List Request). ending_of rs s.final) one.0 ∙ sym (ending_goes turns b.later s.final going)
+        ∙ ap (λ (rs : List Request). ending_of rs s.final) (sym b.all) ∙ sym s.ends)
+
+  by_last : EndsLast turns → Ended ≡ ending
+  by_last last = sym (ending_last turns b.later s.final last) ∙ ap (λ (rs : List Request). ending_of rs s.final) (sym b.all) ∙ sym s.ends
+
+  -- there were fewer than a connection may have
+  too_few : (GoOn turns ⊎ EndsLast turns) → length turns ≡ 1000000 → ⊥
+  too_few (inl going) full = omega (arith, heeded_goes turns b.later going, full, few) where
+    few : length (heeded (requests turns ++ b.later)) < 1000000
+    few = subst (λ rs. length (heeded rs) < 1000000) b.all s.few
+  too_few (inr last) full = omega (arith, heeded_last turns b.later last, full, few) where
+    few : length (heeded (requests turns ++ b.later)) < 1000000
+    few = subst (λ rs. length (heeded rs) < 1000000) b.all s.few
+
+not_cut : ((Cut ≡ Ended) ⊎ (Cut ≡ Spent)) → ⊥
+not_cut (inl e) = cc
+not_cut (inr e) = cc
+
+not_bad : ((Bad ≡ Ended) ⊎ (Bad ≡ Spent)) → ⊥
+not_bad (inl e) = cc
+not_bad (inr e) = cc
+
+module _ (t : Terms) (before now : Moment) (ending : ConnEnd) (new : before.unread ≡ []) (none_yet : before.count ≡ 0) (s : Spells before.left ending) where
+  -- the requests that were answered stand at the front of those that were sent
+  sent_for : (end : ConnEnd) → (h : Served t before now end) → h.broken ≡ []
+      → (l : List ℕ) × (now.left ≡ Some l) × Sent (h.rest ++ l) (requests h.answered) s.sent s.rest s.final
+  sent_for end h whole =
+      let f = front t before now (h.answered ++ h.broken) h.behind h.rest _ s.bytes h.talk new s.is in
+      let P : List Turn → Type 0 = λ b. Sent (h.rest ++ f.0) (requests b) s.sent s.rest s.final in
+      let all = sent_behind s.bytes (h.rest ++ f.0) s.rest (requests (h.answered ++ h.broken)) s.sent s.final f.2 s.splits in
+      (f.0, f.1, subst P (ap (λ (b : List Turn). h.answered ++ b) whole ∙ append-nil h.answered) all)
+
+  Found : ConnEnd → Type 0
+  Found end = (end ≡ ending) ⊎ ((end ≡ NoMemory) ⊎ IsOpenTarget s.rest)
+
+  found : (end : ConnEnd) → ((end ≡ ending) ⊎ IsOpenTarget s.rest) → Found end
+  found end (inl e) = inl e
+  found end (inr o) = inr (inr o)
+
+  ended : Served t before now Ended → Found Ended
+  ended h = by h.ends.3 h.going where
+    by : (((h.rest ≡ []) × IsAtEnd now.left) ⊎ EndsLast h.answered) → (GoOn h.answered ⊎ (EndsLast h.answered × ((Ended ≡ Ended) ⊎ (Ended ≡ Spent)))) → Found Ended
+    by (inr last) going = let f = sent_for Ended h h.ends.0 in inl (by_last t before now ending h.answered h.rest f.0 s f.2 last)
+    by (inl over) (inr last) = let f = sent_for Ended h h.ends.0 in inl (by_last t before now ending h.answered h.rest f.0 s f.2 last.0)
+    by (inl over) (inl going) =
+        let f = sent_for Ended h h.ends.0 in
+        let nil : h.rest ++ f.0 ≡ [] = ap (λ (r : List ℕ). r ++ f.0) over.0 ∙ at_end_nil now.left f.0 f.1 over.1 in
+        found Ended (by_final t before now ending h.answered h.rest f.0 s f.2 at_end going nil)
+
+  cut_short : Served t before now Cut → Found Cut
+  cut_short h = by h.going where
+    by : (GoOn h.answered ⊎ (EndsLast h.answered × ((Cut ≡ Ended) ⊎ (Cut ≡ Spent)))) → Found Cut
+    by (inr last) = absurd (not_cut last.1)
+    by (inl going) =
+        let f = sent_for Cut h h.ends.0 in
+        let P : List ℕ → Type 0 = λ b. EndsAs b is_cut in
+        let nil = at_end_nil now.left f.0 f.1 h.ends.2 in
+        let same : h.rest ≡ h.rest ++ f.0 = sym (append-nil h.rest) ∙ ap (λ (l : List ℕ). h.rest ++ l) (sym nil) in
+        found Cut (by_final t before now ending h.answered h.rest f.0 s f.2 is_cut going (subst P same (cut_ends h.rest h.part h.ends.1)))
+
+  bad_bytes : Served t before now Bad → Found Bad
+  bad_bytes h = by h.going (refused_ends h.rest h.ends.1.0 h.ends.1.1 h.ends.1.2) where
+    by : (GoOn h.answered ⊎ (EndsLast h.answered × ((Bad ≡ Ended) ⊎ (Bad ≡ Spent)))) → (EndsAs h.rest is_bad ⊎ EndsAs h.rest is_over) → Found Bad
+    by (inr last) bad = absurd (not_bad last.1)
+    by (inl going) (inl bad) =
+        let f = sent_for Bad h h.ends.0 in
+        found Bad (by_final t before now ending h.answered h.rest f.0 s f.2 is_bad going (settled_more h.rest f.0 is_bad tt bad))
+    by (inl going) (inr over) =
+        let f = sent_for Bad h h.ends.0 in
+        found Bad (by_final t before now ending h.answered h.rest f.0 s f.2 is_over going (settled_more h.rest f.0 is_over tt over))
+
+  full_of : (n a : ℕ) → n ≡ 0 → n + a ≡ 1000000 → a ≡ 1000000
+  full_of n a e f = omega (arith, e, f)
+
+  spent : Served t before now Spent → ⊥
+  spent h = by h.going where
+    by : (GoOn h.answered ⊎ (EndsLast h.answered × ((Spent ≡ Ended) ⊎ (Spent ≡ Spent)))) → ⊥
+    by (inl going) = let f = sent_for Spent h h.ends.0 in too_few t before now ending h.answered h.rest f.0 s f.2 (inl going) (full_of before.count (length h.answered) none_yet h.ends.3)
+    by (inr last) = let f = sent_for Spent h h.ends.0 in too_few t before now ending h.answered h.rest f.0 s f.2 (inr last.0) (full_of before.count (length h.answered) none_yet h.ends.3)
+
+  pub complete : (end : ConnEnd) → Served t before now end → (Rose before.read_faults now.read_faults → ⊥) → (Rose before.write_faults now.write_faults → ⊥)
+      → (Rose before.port_faults now.port_faults → ⊥) → Found end
+  complete Ended h read write port = ended h
+  complete Cut h read write port = cut_short h
+  complete Bad h read write port = bad_bytes h
+  complete ReadFault h read write port = absurd (read h.ends.2)
+  complete WriteFault h read write port = absurd (write h.ends.3)
+  complete DiskFault h read write port = absurd (port h.ends.2)
+  complete NoMemory h read write port = inr (inl refl)
+  complete Spent h read write port = absurd (spent h)

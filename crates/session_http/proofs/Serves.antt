@@ -1,27 +1,188 @@
--- How each end of a connection follows from the talk so far.
-use Rattle.std.proofs.Common.{◌≡◌, ◌≢◌, ℕ, ◌+◌, ◌<◌, ◌≤◌, List, [], ◌∷◌, ◌++◌, length, Option, Bool, IsTrue, refl, sym, ◌∙◌, ap, subst, append-nil, arith, length-append, inl, inr}
+-- What a connection did from a moment on, said of it from its start.
+use Rattle.std.proofs.Common.{◌≡◌, ◌≢◌, ℕ, ◌+◌, ◌<◌, ◌≤◌, List, [], ◌∷◌, ◌++◌, length, refl, sym, ◌∙◌, ap, subst, append_assoc, append-nil, arith, length-append, inl, inr, ◌⊎◌, Bool, true, false, IsTrue}
+use Rattle.std.specs.Prelude.{All}
+use Rattle.std.proofs.lemmas.List.Elements.{All-append, All-cons}
 use Rattle.std.specs.Io.KnownBytes.{IsAtEnd, append_known, prepend_known}
 use Rattle.fh_world.specs.Causes.{Rose}
 use Rattle.fh_model.specs.declared.commands.Cmd.{Cmd}
-use Rattle.fh_model.specs.declared.replies.Reply.{Reply}
-use Rattle.fh_model.specs.Connection.{Turn, cmd_of, told}
-use Rattle.fh_model.specs.FolderRequests.{request_text}
-use Rattle.fh_model.specs.History.{Kept, state_after, with_more}
-use Rattle.fh_model.specs.ReplyText.{reply_text}
-use Rattle.fh_model.proofs.Runs.{with_more_more}
-use Rattle.host_seat.specs.Port.{OthersEnter, Leaves}
-use Rattle.session_http.specs.Talk.{Terms, Moment, IsTurn, Enters, FailsBy, Talk, Served, EndsBy, StopsBy, TellsBy, IsPart, first, added, replies, replies_behind}
+use Rattle.fh_model.specs.History.{with_more}
+use Rattle.host_seat.specs.Port.{Leaves}
+use Rattle.http_in.specs.Bodies.{done}
+use Rattle.http_in.specs.Requests.{BeginsWithBody}
+use Rattle.session_rules.specs.Asked.{asks_last}
+use Rattle.session_rules.specs.Connection.{Turn, cmd_of, decision, gained_in, text_in, texts}
+use Rattle.session_rules.specs.Decisions.{enters}
+use Rattle.session_http.specs.Begun.{stay}
+use Rattle.session_http.specs.Talk.{Terms, Moment, IsTurn, Talk, desk, first, added, state_behind, replies, replies_behind}
+use Rattle.session_http.specs.Ends.{GoOn, EndsLast, IsPart, IsWritten, IsStopped, EndsBy, Served}
+use Rattle.session_http.specs.Steps.{Turned, StopsBy, Stops}
 use Rattle.session_http.specs.declared.conn.ConnEnd.{ConnEnd}
 use Rattle.session_http.specs.declared.conn.ConnEnd.TheVariants.{Ended, Cut, Bad, ReadFault, WriteFault, DiskFault, NoMemory, Spent}
-use Rattle.session_http.proofs.Talks.{after_read, after_write, after_commit, talk_starts, talk_reads, talk_seen, talk_state, talk_enters, talk_tells, replies_more, leaves_more, rose_since}
+use Rattle.session_http.proofs.Begun.{begins_one}
+use Rattle.session_http.proofs.Talks.{talk_starts, talk_on, talk_seen, state_on, same_desk, replies_on, leaves_more, rose_since}
 
--- the talk where all is answered
-whole : (t : Terms) (before now : Moment) (turns : List Turn) (behind : List Cmd) (rest : List ℕ)
-    → Talk t before now turns behind rest (replies before turns) → Talk t before now (turns ++ []) behind rest (replies before turns ++ [])
-whole t before now turns behind rest h =
-    let P : List Turn → Type 0 = λ l. Talk t before now l behind rest (replies before turns ++ []) in
-    let Q : List ℕ → Type 0 = λ l. Talk t before now turns behind rest l in
-    subst P (sym (append-nil turns)) (subst Q (sym (append-nil (replies before turns))) h)
+below_nothing : (k : ℕ) → k < 0 → ⊥
+below_nothing k h = omega arith
+
+-- the talk so far, where all requests that were read are answered, and none asked that the connection end
+pub record SoFar (t : Terms) (before now : Moment) : Type 0 where
+  pub turns : List Turn
+  pub talk : Talk t before now turns [] now.unread (replies t before turns)
+  pub counted : now.count ≡ before.count + length turns
+  pub waits : Leaves before.waits [] now.waits
+  pub going : GoOn turns
+  pub port_later : before.port_faults ≤ now.port_faults
+  pub read_later : before.read_faults ≤ now.read_faults
+  pub write_later : before.write_faults ≤ now.write_faults
+
+none_on : (n : ℕ) → n ≡ n + 0
+none_on n = omega arith
+
+pub so_far_starts : (t : Terms) (m : Moment) → SoFar t m m
+so_far_starts t m = record {
+  turns = [];
+  talk = talk_starts t m;
+  counted = none_on m.count;
+  waits = inl refl;
+  going = λ k d h. absurd (below_nothing k h);
+  port_later = omega arith;
+  read_later = omega arith;
+  write_later = omega arith;
+}
+
+module _ (t : Terms) (before mid now : Moment) (so : SoFar t before mid) where
+  last_on : (answered : List Turn) → EndsLast answered → EndsLast (so.turns ++ answered)
+  last_on answered h = (
+    so.turns ++ h.0,
+    h.1,
+    ap (λ (l : List Turn). so.turns ++ l) h.2 ∙ sym (append_assoc so.turns h.0 (h.1 ∷ [])),
+    All-append (λ turn. asks_last turn.asked.head ≡ false) so.turns h.0 so.going h.3,
+    h.4,
+  )
+
+  number_on : (n k m a b c : ℕ) → m ≡ n + k → c ≡ k + a → m + 1 + a ≡ n + 1 + c
+  number_on n k m a b c e f = omega (arith, e, f)
+
+  text_on : (answered broken : List Turn) → replies_behind t mid answered broken ≡ replies_behind t before (so.turns ++ answered) broken
+  text_on answered broken =
+      ap (λ d. texts d (state_behind t mid answered) (mid.count + 1 + length answered) broken) (same_desk t before mid so.turns (replies t before so.turns) so.talk)
+      ∙ ap (λ s. texts (desk t before) s (mid.count + 1 + length answered) broken) (state_on t before mid so.turns (replies t before so.turns) so.talk answered)
+      ∙ ap (λ k. texts (desk t before) (state_behind t before (so.turns ++ answered)) k broken)
+          (number_on before.count (length so.turns) mid.count (length answered) 0 (length (so.turns ++ answered)) so.counted (length-append so.turns answered))
+
+  written_on : (answered broken : List Turn) (rest text : List ℕ) → IsWritten t mid answered broken rest text → IsWritten t before (so.turns ++ answered) broken rest text
+  written_on answered broken rest text (inl e) = inl (e ∙ text_on answered broken)
+  written_on answered broken rest text (inr h) = inr h
+
+  stopped_on : (answered : List Turn) (behind : List Cmd) (rest part : List ℕ) → IsStopped t mid now answered behind rest part
+      → IsStopped t before now (so.turns ++ answered) behind rest part
+  stopped_on answered behind rest part h =
+      let P : ℕ → Type 0 = λ n. Leaves mid.waits (cmd_of n h.turn.at h.act ∷ []) now.waits in
+      record {
+        turn = h.turn;
+        act = h.act;
+        after = h.after;
+        begins = h.begins;
+        is = h.is;
+        entered = h.entered;
+        wanted = ap (λ d. decision d (state_behind t before (so.turns ++ answered)) h.turn) (sym (same_desk t before mid so.turns (replies t before so.turns) so.talk))
+            ∙ ap (λ s. decision (desk t mid) s h.turn) (sym (state_on t before mid so.turns (replies t before so.turns) so.talk answered))
+            ∙ h.wanted;
+        wrote = h.wrote;
+        left = leaves_more before.waits mid.waits now.waits (cmd_of before.number h.turn.at h.act ∷ []) so.waits (subst P so.talk.number h.left);
+      }
+
+  total_on : (n k m a c max : ℕ) → m ≡ n + k → c ≡ k + a → m + a ≡ max → n + c ≡ max
+  total_on n k m a c max e f g = omega (arith, e, f, g)
+
+  few_on : (n k m a c max : ℕ) → m ≡ n + k → c ≡ k + a → m + a < max → n + c < max
+  few_on n k m a c max e f g = omega (arith, e, f, g)
+
+  over_on : (answered : List Turn) (rest : List ℕ) → (((rest ≡ []) × IsAtEnd now.left) ⊎ EndsLast answered)
+      → ((rest ≡ []) × IsAtEnd now.left) ⊎ EndsLast (so.turns ++ answered)
+  over_on answered rest (inl over) = inl over
+  over_on answered rest (inr last) = inr (last_on answered last)
+
+  ends_on : (end : ConnEnd) (answered broken : List Turn) (behind : List Cmd) (rest part : List ℕ) → EndsBy end t mid now answered broken behind rest part
+      → EndsBy end t before now (so.turns ++ answered) broken behind rest part
+  ends_on Ended answered broken behind rest part h = (h.0, h.1, h.2, over_on answered rest h.3)
+  ends_on Cut answered broken behind rest part h = h
+  ends_on Bad answered broken behind rest part h = h
+  ends_on ReadFault answered broken behind rest part h = (h.0, h.1, rose_since before.read_faults mid.read_faults now.read_faults so.read_later h.2)
+  ends_on WriteFault answered broken behind rest part h =
+      (h.0, written_on answered broken rest h.0 h.1, h.2, rose_since before.write_faults mid.write_faults now.write_faults so.write_later h.3)
+  ends_on DiskFault answered broken behind rest part h =
+      (h.0, stopped_on answered behind rest part h.1, rose_since before.port_faults mid.port_faults now.port_faults so.port_later h.2)
+  ends_on NoMemory answered broken behind rest part h = h
+  ends_on Spent answered broken behind rest part h =
+      (h.0, h.1, h.2, total_on before.count (length so.turns) mid.count (length answered) (length (so.turns ++ answered)) _ so.counted (length-append so.turns answered) h.3)
+
+  going_on : (end : ConnEnd) (answered : List Turn) → (GoOn answered ⊎ (EndsLast answered × ((end ≡ Ended) ⊎ (end ≡ Spent))))
+      → GoOn (so.turns ++ answered) ⊎ (EndsLast (so.turns ++ answered) × ((end ≡ Ended) ⊎ (end ≡ Spent)))
+  going_on end answered (inl all) = inl (All-append (λ turn. asks_last turn.asked.head ≡ false) so.turns answered so.going all)
+  going_on end answered (inr last) = inr (last_on answered last.0, last.1)
+
+  -- what was done from the middle on is what was done from the start on
+  pub served_on : (end : ConnEnd) → Served t mid now end → Served t before now end
+  served_on end h =
+      let first = replies t before so.turns in
+      let all = talk_on t before mid so.turns first so.talk now (h.answered ++ h.broken) h.behind h.rest (replies t mid h.answered ++ h.part) h.talk in
+      let P : List Turn → Type 0 = λ l. Talk t before now l h.behind h.rest (first ++ (replies t mid h.answered ++ h.part)) in
+      let Q : List ℕ → Type 0 = λ x. Talk t before now ((so.turns ++ h.answered) ++ h.broken) h.behind h.rest x in
+      record {
+        answered = so.turns ++ h.answered;
+        broken = h.broken;
+        behind = h.behind;
+        rest = h.rest;
+        part = h.part;
+        talk = subst Q (sym (append_assoc first (replies t mid h.answered) h.part)
+            ∙ ap (λ l. l ++ h.part) (sym (replies_on t before mid so.turns first so.talk so.counted h.answered)))
+            (subst P (sym (append_assoc so.turns h.answered h.broken)) all);
+        one = h.one;
+        few = λ other. few_on before.count (length so.turns) mid.count (length h.answered) (length (so.turns ++ h.answered)) _ so.counted
+            (length-append so.turns h.answered) (h.few other);
+        going = going_on end h.answered h.going;
+        mine = h.mine;
+        waits = λ other. leaves_more before.waits mid.waits now.waits [] so.waits (h.waits other);
+        ends = ends_on end h.answered h.broken h.behind h.rest h.part h.ends;
+      }
+
+one_later : (n k m c : ℕ) → m ≡ n + k → c ≡ k + 1 → m + 1 ≡ n + c
+one_later n k m c e f = omega (arith, e, f)
+
+at_most : (a b c : ℕ) → a ≤ b → b ≤ c → a ≤ c
+at_most a b c h g = omega (arith, h, g)
+
+module _ (t : Terms) (before mid now : Moment) (so : SoFar t before mid) (turn : Turn) (h : Turned t mid now turn) (counted : now.count ≡ mid.count + 1) where
+  -- the talk behind it
+  pub talk_turned : Talk t before now (so.turns ++ turn ∷ []) [] now.unread (replies t before (so.turns ++ turn ∷ []))
+  talk_turned =
+      let first = replies t before so.turns in
+      let P : List ℕ → Type 0 = λ x. Talk t before now (so.turns ++ turn ∷ []) [] now.unread x in
+      subst P (sym (replies_on t before mid so.turns first so.talk so.counted (turn ∷ [])))
+      (talk_on t before mid so.turns first so.talk now (turn ∷ []) [] now.unread (replies t mid (turn ∷ [])) h.talk)
+
+  pub counted_turned : now.count ≡ before.count + length (so.turns ++ turn ∷ [])
+  counted_turned =
+      counted ∙ one_later before.count (length so.turns) mid.count (length (so.turns ++ turn ∷ [])) so.counted (length-append so.turns (turn ∷ []))
+
+  pub one_going : asks_last turn.asked.head ≡ false → GoOn (turn ∷ [])
+  one_going goes = All-cons (λ u. asks_last u.asked.head ≡ false) turn [] goes (λ k d l. absurd (below_nothing k l))
+
+  -- it did not ask that the connection end
+  pub so_far_on : asks_last turn.asked.head ≡ false → SoFar t before now
+  so_far_on goes = record {
+    turns = so.turns ++ turn ∷ [];
+    talk = talk_turned;
+    counted = counted_turned;
+    waits = leaves_more before.waits mid.waits now.waits [] so.waits h.waits;
+    going = All-append (λ u. asks_last u.asked.head ≡ false) so.turns (turn ∷ []) so.going (one_going goes);
+    port_later = at_most before.port_faults mid.port_faults now.port_faults so.port_later h.port_later;
+    read_later = at_most before.read_faults mid.read_faults now.read_faults so.read_later h.read_later;
+    write_later = at_most before.write_faults mid.write_faults now.write_faults so.write_later h.write_later;
+  }
+
+-- ---- the ends behind a whole request
 
 nothing_le_one : 0 ≤ 1
 nothing_le_one = omega arith
@@ -29,228 +190,165 @@ nothing_le_one = omega arith
 one_le_one : 1 ≤ 1
 one_le_one = omega arith
 
-stop_ends : (end : ConnEnd) (t : Terms) (before now : Moment) (faults : ℕ) (turns : List Turn) (rest : List ℕ) → before.read_faults ≤ faults
-    → StopsBy end t.token now.left faults now.read_faults rest → EndsBy end t before now turns [] rest []
-stop_ends Ended t before now faults turns rest later stop = (refl, refl, stop.0, stop.1)
-stop_ends Cut t before now faults turns rest later stop = (refl, refl, stop.0, stop.1)
-stop_ends Bad t before now faults turns rest later stop = (refl, refl, stop)
-stop_ends ReadFault t before now faults turns rest later stop = (refl, refl, rose_since before.read_faults faults now.read_faults later stop)
-stop_ends NoMemory t before now faults turns rest later stop = refl
-stop_ends WriteFault t before now faults turns rest later stop = absurd stop
-stop_ends DiskFault t before now faults turns rest later stop = absurd stop
-stop_ends Spent t before now faults turns rest later stop = absurd stop
+whole : (t : Terms) (before now : Moment) (turns : List Turn) → Talk t before now turns [] now.unread (replies t before turns)
+    → Talk t before now (turns ++ []) [] now.unread (replies t before turns ++ [])
+whole t before now turns h =
+    let P : List Turn → Type 0 = λ l. Talk t before now l [] now.unread (replies t before turns ++ []) in
+    let Q : List ℕ → Type 0 = λ l. Talk t before now turns [] now.unread l in
+    subst P (sym (append-nil turns)) (subst Q (sym (append-nil (replies t before turns))) h)
 
--- no further request was read
-pub serve_stops : (end : ConnEnd) (t : Terms) (before now : Moment) (given left : Option (List ℕ)) (faults : ℕ) (turns : List Turn) (rest bytes : List ℕ)
-    → Talk t before now turns [] rest (replies before turns) → length turns < 1000000 → Leaves before.waits [] now.waits → before.read_faults ≤ now.read_faults
-    → given ≡ append_known now.given bytes → now.left ≡ prepend_known bytes left
-    → StopsBy end t.token left now.read_faults faults (rest ++ bytes)
-    → Served t before (after_read now given left faults) end
-serve_stops end t before now given left faults turns rest bytes h few waits later gave took stop = record {
+-- a connection whose requests are all answered, as it ends by the number of them, or by the last one's asking
+serve_whole : (end : ConnEnd) (t : Terms) (before now : Moment) (turns : List Turn) → Talk t before now turns [] now.unread (replies t before turns)
+    → Leaves before.waits [] now.waits → (end ≢ Spent → before.count + length turns < 1000000)
+    → (GoOn turns ⊎ (EndsLast turns × ((end ≡ Ended) ⊎ (end ≡ Spent)))) → EndsBy end t before now turns [] [] now.unread [] → Served t before now end
+serve_whole end t before now turns h waits few going ends = record {
   answered = turns;
   broken = [];
   behind = [];
-  rest = rest ++ bytes;
+  rest = now.unread;
   part = [];
+  talk = whole t before now turns h;
   one = nothing_le_one;
-  few = λ _. few;
-  still = λ _ _. refl;
+  few = few;
+  going = going;
   mine = λ _. refl;
   waits = λ _. waits;
-  talk = whole t before (after_read now given left faults) turns [] (rest ++ bytes) (talk_reads t before now given left faults turns rest bytes (replies before turns) h gave took);
-  ends = stop_ends end t before (after_read now given left faults) now.read_faults turns (rest ++ bytes) later stop;
+  ends = ends;
 }
 
--- the next request was read
-pub talk_next : (t : Terms) (before now : Moment) (given left : Option (List ℕ)) (faults : ℕ) (turns : List Turn) (rest bytes name after text : List ℕ)
-    → Talk t before now turns [] rest text → given ≡ append_known now.given bytes → now.left ≡ prepend_known bytes left
-    → rest ++ bytes ≡ request_text t.token name ++ after
-    → Talk t before (after_read now given left faults) turns [] (request_text t.token name ++ after) text
-talk_next t before now given left faults turns rest bytes name after text h gave took e =
-    let P : List ℕ → Type 0 = λ l. Talk t before (after_read now given left faults) turns [] l text in
-    subst P e (talk_reads t before now given left faults turns rest bytes text h gave took)
+-- as many requests were answered as a connection may have, and none asked that it end
+pub serve_full : (t : Terms) (before now : Moment) → SoFar t before now → now.count ≡ 1000000 → Served t before now Spent
+serve_full t before now so full =
+    serve_whole Spent t before now so.turns so.talk so.waits (λ other. absurd (other refl)) (inl so.going) (refl, refl, refl, sym so.counted ∙ full)
 
-fail_ends : (end : ConnEnd) (t : Terms) (before now : Moment) (number : ℕ) (waits : List Cmd) (faults : ℕ) (turns : List Turn) (name after : List ℕ)
-    → number ≡ before.number → before.port_faults ≤ faults → Leaves before.waits [] waits
-    → FailsBy end t number name faults now.port_faults waits now.waits → EndsBy end t before now turns [] (request_text t.token name ++ after) []
-fail_ends DiskFault t before now number waits faults turns name after same later left fails =
-    let P : ℕ → Type 0 = λ n. Leaves waits (cmd_of n fails.1 ∷ []) now.waits in (
-      refl,
-      refl,
-      rose_since before.port_faults faults now.port_faults later fails.0,
-      name,
-      after,
-      refl,
-      fails.1,
-      fails.2,
-      fails.3,
-      leaves_more before.waits waits now.waits (cmd_of before.number fails.1 ∷ []) left (subst P same fails.4),
-    )
-fail_ends NoMemory t before now number waits faults turns name after same later left fails = refl
-fail_ends Ended t before now number waits faults turns name after same later left fails = absurd fails
-fail_ends Cut t before now number waits faults turns name after same later left fails = absurd fails
-fail_ends Bad t before now number waits faults turns name after same later left fails = absurd fails
-fail_ends ReadFault t before now number waits faults turns name after same later left fails = absurd fails
-fail_ends WriteFault t before now number waits faults turns name after same later left fails = absurd fails
-fail_ends Spent t before now number waits faults turns name after same later left fails = absurd fails
+module _ (t : Terms) (before mid now : Moment) (so : SoFar t before mid) (turn : Turn) (h : Turned t mid now turn) (counted : now.count ≡ mid.count + 1) where
+  waits_turned : Leaves before.waits [] now.waits
+  waits_turned = leaves_more before.waits mid.waits now.waits [] so.waits h.waits
 
--- it ends by one of the two faults of a commit
-fail_still : (end : ConnEnd) (t : Terms) (number : ℕ) (name : List ℕ) (f0 f1 : ℕ) (before now behind : List Cmd) → FailsBy end t number name f0 f1 before now
-    → end ≢ NoMemory → end ≢ DiskFault → behind ≡ []
-fail_still DiskFault t number name f0 f1 before now behind fails memory disk = absurd (disk refl)
-fail_still NoMemory t number name f0 f1 before now behind fails memory disk = absurd (memory refl)
-fail_still Ended t number name f0 f1 before now behind fails memory disk = absurd fails
-fail_still Cut t number name f0 f1 before now behind fails memory disk = absurd fails
-fail_still Bad t number name f0 f1 before now behind fails memory disk = absurd fails
-fail_still ReadFault t number name f0 f1 before now behind fails memory disk = absurd fails
-fail_still WriteFault t number name f0 f1 before now behind fails memory disk = absurd fails
-fail_still Spent t number name f0 f1 before now behind fails memory disk = absurd fails
+  last_turned : asks_last turn.asked.head ≡ true → EndsLast (so.turns ++ turn ∷ [])
+  last_turned asked = (so.turns, turn, refl, so.going, asked)
 
-fail_waits : (end : ConnEnd) (t : Terms) (number : ℕ) (name : List ℕ) (f0 f1 : ℕ) (before now : List Cmd) → FailsBy end t number name f0 f1 before now → end ≢ DiskFault → Leaves before [] now
-fail_waits DiskFault t number name f0 f1 before now fails disk = absurd (disk refl)
-fail_waits NoMemory t number name f0 f1 before now fails disk = fails
-fail_waits Ended t number name f0 f1 before now fails disk = absurd fails
-fail_waits Cut t number name f0 f1 before now fails disk = absurd fails
-fail_waits Bad t number name f0 f1 before now fails disk = absurd fails
-fail_waits ReadFault t number name f0 f1 before now fails disk = absurd fails
-fail_waits WriteFault t number name f0 f1 before now fails disk = absurd fails
-fail_waits Spent t number name f0 f1 before now fails disk = absurd fails
+  -- the last request asked that the connection end
+  pub serve_last : asks_last turn.asked.head ≡ true → now.count < 1000000 → Served t before now Ended
+  serve_last asked few =
+      let turns = so.turns ++ turn ∷ [] in
+      let number = counted_turned t before mid now so turn h counted in
+      let P : ℕ → Type 0 = λ n. n < 1000000 in
+      serve_whole Ended t before now turns (talk_turned t before mid now so turn h counted) waits_turned (λ _. subst P number few)
+      (inr (last_turned asked, inl refl)) (refl, refl, refl, inr (last_turned asked))
 
--- its command could not enter
-pub serve_refused : (end : ConnEnd) (t : Terms) (before now : Moment) (seen : Kept) (waits : List Cmd) (number faults : ℕ) (turns : List Turn) (name after : List ℕ)
-    → Talk t before now turns [] (request_text t.token name ++ after) (replies before turns) → length turns < 1000000
-    → Leaves before.waits [] now.waits → before.port_faults ≤ now.port_faults
-    → OthersEnter t.alone now.seen seen → number ≡ now.number
-    → FailsBy end t now.number name now.port_faults faults now.waits waits
-    → Served t before (after_commit now seen waits number faults) end
-serve_refused end t before now seen waits number faults turns name after h few left later entered same_number fails = record {
-  answered = turns;
-  broken = [];
-  behind = entered.others;
-  rest = request_text t.token name ++ after;
-  part = [];
-  one = nothing_le_one;
-  few = λ _. few;
-  still = fail_still end t now.number name now.port_faults faults now.waits waits entered.others fails;
-  mine = entered.mine;
-  waits = λ other. leaves_more before.waits now.waits waits [] left (fail_waits end t now.number name now.port_faults faults now.waits waits fails other);
-  talk = whole t before (after_commit now seen waits number faults) turns entered.others (request_text t.token name ++ after)
-      (record {
-        gave = h.gave;
-        took = h.took;
-        wrote = h.wrote;
-        history = entered.grown ∙ ap (λ k. with_more k entered.others) (talk_seen t before now turns (request_text t.token name ++ after) (replies before turns) h)
-            ∙ with_more_more before.seen (added before turns) entered.others;
-        number = same_number ∙ h.number;
-        each = h.each;
-      });
-  ends = fail_ends end t before (after_commit now seen waits number faults) now.number now.waits now.port_faults turns name after h.number later left fails;
-}
+  spent_going : (asked : Bool) → asks_last turn.asked.head ≡ asked
+      → GoOn (so.turns ++ turn ∷ []) ⊎ (EndsLast (so.turns ++ turn ∷ []) × ((Spent ≡ Ended) ⊎ (Spent ≡ Spent)))
+  spent_going false is = inl (All-append (λ u. asks_last u.asked.head ≡ false) so.turns (turn ∷ []) so.going (one_going t before mid now so turn h counted is))
+  spent_going true is = inr (last_turned is, inr refl)
 
--- nothing was read, since memory was wanting
-pub serve_nothing : (t : Terms) (m : Moment) → Served t m m NoMemory
-serve_nothing t m = record {
+  -- it was the last that a connection may have
+  pub serve_spent : now.count ≡ 1000000 → Served t before now Spent
+  serve_spent full =
+      let turns = so.turns ++ turn ∷ [] in
+      let number = counted_turned t before mid now so turn h counted in
+      serve_whole Spent t before now turns (talk_turned t before mid now so turn h counted) waits_turned (λ other. absurd (other refl))
+      (spent_going (asks_last turn.asked.head) refl) (refl, refl, refl, sym number ∙ full)
+
+-- ---- one request, from the moment before it on
+
+count_on : (n m : ℕ) → n < m → n + 0 < m
+count_on n m l = omega (arith, l)
+
+-- it was not answered
+pub serve_none : (end : ConnEnd) (t : Terms) (old new : Moment) (bytes part : List ℕ) (behind : List Cmd)
+    → new.given ≡ append_known old.given bytes → old.left ≡ prepend_known bytes new.left → new.held ≡ append_known old.held part
+    → new.seen ≡ with_more old.seen behind → new.number ≡ old.number → (end ≢ DiskFault → Leaves old.waits [] new.waits)
+    → (IsTrue t.alone → behind ≡ []) → old.count < 1000000
+    → EndsBy end t old new [] [] behind (old.unread ++ bytes) part → Served t old new end
+serve_none end t old new bytes part behind gave took wrote history number waits mine few ends = record {
   answered = [];
   broken = [];
-  behind = [];
-  rest = [];
-  part = [];
-  one = nothing_le_one;
-  few = λ _. omega arith;
-  still = λ _ _. refl;
-  mine = λ _. refl;
-  waits = λ _. inl refl;
-  talk = talk_starts t m;
-  ends = refl;
-}
-
-told_text : (t : Terms) (before now : Moment) (seen : Kept) (turns : List Turn) (name rest text : List ℕ) (reply : Reply)
-    → Talk t before now turns [] rest text → (e : Enters t now.number now.seen seen name reply)
-    → reply_text reply ≡ replies_behind before turns (e.turn ∷ [])
-told_text t before now seen turns name rest text reply h e =
-    e.answer ∙ ap (λ z. told z now.number e.turn) (talk_state t before now turns rest text h)
-    ∙ ap (λ n. told (state_after (first before) (added before turns)) n e.turn) h.number
-    ∙ sym (append-nil (told (state_after (first before) (added before turns)) before.number e.turn))
-
-tell_ends : (end : ConnEnd) (t : Terms) (before now : Moment) (faults : ℕ) (turns : List Turn) (turn : Turn) (rest part text : List ℕ) → before.write_faults ≤ faults
-    → text ≡ replies_behind before turns (turn ∷ []) → TellsBy end text part faults now.write_faults → EndsBy end t before now turns (turn ∷ []) rest part
-tell_ends WriteFault t before now faults turns turn rest part text later e tells =
-    let P : List ℕ → Type 0 = λ x. IsPart x part in
-    (subst P e tells.0, rose_since before.write_faults faults now.write_faults later tells.1)
-tell_ends NoMemory t before now faults turns turn rest part text later e tells = tells
-tell_ends Ended t before now faults turns turn rest part text later e tells = absurd tells
-tell_ends Cut t before now faults turns turn rest part text later e tells = absurd tells
-tell_ends Bad t before now faults turns turn rest part text later e tells = absurd tells
-tell_ends ReadFault t before now faults turns turn rest part text later e tells = absurd tells
-tell_ends DiskFault t before now faults turns turn rest part text later e tells = absurd tells
-tell_ends Spent t before now faults turns turn rest part text later e tells = absurd tells
-
--- its command entered, and its reply was not written whole
-pub serve_breaks : (end : ConnEnd) (t : Terms) (before now : Moment) (seen : Kept) (waits : List Cmd) (number port_faults : ℕ) (held : Option (List ℕ)) (faults : ℕ) (turns : List Turn) (name rest part : List ℕ) (reply : Reply)
-    → Talk t before now turns [] (request_text t.token name ++ rest) (replies before turns) → length turns < 1000000
-    → Leaves before.waits [] now.waits → Leaves now.waits [] waits
-    → Enters t now.number now.seen seen name reply → number ≡ now.number
-    → before.write_faults ≤ now.write_faults → held ≡ append_known now.held part
-    → TellsBy end (reply_text reply) part now.write_faults faults
-    → Served t before (after_write (after_commit now seen waits number port_faults) held faults) end
-serve_breaks end t before now seen waits number port_faults held faults turns name rest part reply h few left waiting e same_number later wrote tells = record {
-  answered = turns;
-  broken = e.turn ∷ [];
-  behind = [];
-  rest = rest;
+  behind = behind;
+  rest = old.unread ++ bytes;
   part = part;
-  one = one_le_one;
-  few = λ _. few;
-  still = λ _ _. refl;
-  mine = λ _. refl;
-  waits = λ _. leaves_more before.waits now.waits waits [] left waiting;
-  talk = talk_tells t before (after_commit now seen waits number port_faults) held faults (turns ++ e.turn ∷ []) rest (replies before turns) part
-      (talk_enters t before now seen waits number port_faults turns name rest (replies before turns) reply h e same_number) wrote;
-  ends = tell_ends end t before (after_write (after_commit now seen waits number port_faults) held faults) now.write_faults turns e.turn rest part (reply_text reply) later
-      (told_text t before now seen turns name (request_text t.token name ++ rest) (replies before turns) reply h e) tells;
-}
-
--- the talk so far, where all is answered and `rest` is unread
-pub record SoFar (t : Terms) (before now : Moment) (count : ℕ) (rest : List ℕ) : Type 0 where
-  pub turns : List Turn
-  pub counted : length turns ≡ count
-  pub waits : Leaves before.waits [] now.waits
-  pub talk : Talk t before now turns [] rest (replies before turns)
-
-pub so_far_more : (t : Terms) (before now : Moment) (seen : Kept) (waits : List Cmd) (number port_faults : ℕ) (held : Option (List ℕ)) (faults : ℕ) (turns : List Turn) (name rest : List ℕ) (reply : Reply) (count : ℕ)
-    → length turns ≡ count
-    → Talk t before now turns [] (request_text t.token name ++ rest) (replies before turns)
-    → Leaves before.waits [] now.waits → Leaves now.waits [] waits
-    → Enters t now.number now.seen seen name reply → number ≡ now.number
-    → held ≡ append_known now.held (reply_text reply)
-    → SoFar t before (after_write (after_commit now seen waits number port_faults) held faults) (count + 1) rest
-so_far_more t before now seen waits number port_faults held faults turns name rest reply count counted h left waiting e same_number wrote =
-    let after = after_write (after_commit now seen waits number port_faults) held faults in
-    let P : List ℕ → Type 0 = λ x. Talk t before after (turns ++ e.turn ∷ []) [] rest x in
-    record {
-      turns = turns ++ e.turn ∷ [];
-      counted = length-append turns (e.turn ∷ []) ∙ one_more (length turns) count counted;
-      waits = leaves_more before.waits now.waits waits [] left waiting;
-      talk = subst P (sym (replies_more t before now seen turns name (request_text t.token name ++ rest) (replies before turns) reply h e))
-          (talk_tells t before (after_commit now seen waits number port_faults) held faults (turns ++ e.turn ∷ []) rest (replies before turns) (reply_text reply)
-          (talk_enters t before now seen waits number port_faults turns name rest (replies before turns) reply h e same_number) wrote);
-    } where
-      one_more : (n m : ℕ) → n ≡ m → n + 1 ≡ m + 1
-      one_more n m e = omega arith
-
-pub serve_spent : (t : Terms) (before now : Moment) (rest : List ℕ) (count : ℕ) → count ≡ 1000000
-    → SoFar t before now count rest → Served t before now Spent
-serve_spent t before now rest count e h = record {
-  answered = h.turns;
-  broken = [];
-  behind = [];
-  rest = rest;
-  part = [];
+  talk = record {
+    bytes = bytes;
+    begins = stay (old.unread ++ bytes);
+    gave = gave;
+    took = took;
+    wrote = wrote;
+    history = history;
+    number = number;
+    each = λ k d l. absurd (below_nothing k l);
+  };
   one = nothing_le_one;
-  few = λ other. absurd (other refl);
-  still = λ _ _. refl;
-  mine = λ _. refl;
-  waits = λ _. h.waits;
-  talk = whole t before now h.turns [] rest h.talk;
-  ends = (h.counted ∙ e, refl, refl);
+  few = λ _. count_on old.count 1000000 few;
+  going = inl (λ k d l. absurd (below_nothing k l));
+  mine = mine;
+  waits = waits;
+  ends = ends;
 }
+
+stop_ends : (end : ConnEnd) (t : Terms) (old new : Moment) (others : List Cmd) (rest part : List ℕ) → StopsBy end others rest part old new
+    → EndsBy end t old new [] [] others rest part
+stop_ends Ended t old new others rest part h = (refl, h.0, h.2, inl (h.1, h.3))
+stop_ends Cut t old new others rest part h = (refl, h.0, h.1)
+stop_ends Bad t old new others rest part h = (refl, h)
+stop_ends ReadFault t old new others rest part h = (refl, h.0, h.1)
+stop_ends WriteFault t old new others rest part h = (h.0, inr (refl, h.1), h.2, h.3)
+stop_ends NoMemory t old new others rest part h = (refl, h)
+stop_ends DiskFault t old new others rest part h = absurd h
+stop_ends Spent t old new others rest part h = absurd h
+
+-- no whole request was read
+pub serve_stopped : (end : ConnEnd) (t : Terms) (old new : Moment) → Stops t old new end → old.count < 1000000 → Served t old new end
+serve_stopped end t old new h few =
+    let passes = h.passes in
+    serve_none end t old new h.bytes h.part passes.others passes.gave passes.took passes.wrote passes.grown passes.number (λ _. inl passes.waits) passes.mine few
+    (stop_ends end t old new passes.others (old.unread ++ h.bytes) h.part h.stops)
+
+module _ (t : Terms) (old new : Moment) (turn : Turn) (bytes : List ℕ) (begins : BeginsWithBody (old.unread ++ bytes) turn.asked (done new.unread))
+    (gave : new.given ≡ append_known old.given bytes) (took : old.left ≡ prepend_known bytes new.left)
+    (history : new.seen ≡ with_more old.seen (gained_in (desk t old) (first old) turn)) (number : new.number ≡ old.number) (is : IsTurn t turn)
+    (waits : Leaves old.waits [] new.waits) where
+  talk_one : (text : List ℕ) → new.held ≡ append_known old.held text → Talk t old new (turn ∷ []) [] new.unread text
+  talk_one text wrote = record {
+    bytes = bytes;
+    begins = begins_one (old.unread ++ bytes) new.unread turn.asked begins;
+    gave = gave;
+    took = took;
+    wrote = wrote;
+    history = history ∙ ap (with_more old.seen) (sym (append-nil (gained_in (desk t old) (first old) turn)) ∙ sym (append-nil (added t old (turn ∷ []))));
+    number = number;
+    each = All-cons (IsTurn t) turn [] is (λ k d l. absurd (below_nothing k l));
+  }
+
+  one_text : (text : List ℕ) → text ≡ text_in (desk t old) (first old) (old.count + 1) turn → text ≡ replies t old (turn ∷ [])
+  one_text text told = told ∙ sym (append-nil (text_in (desk t old) (first old) (old.count + 1) turn))
+
+  -- it was answered
+  pub turned : (text : List ℕ) → new.held ≡ append_known old.held text → text ≡ text_in (desk t old) (first old) (old.count + 1) turn
+      → old.port_faults ≤ new.port_faults → old.read_faults ≤ new.read_faults → old.write_faults ≤ new.write_faults → Turned t old new turn
+  turned text wrote told port_later read_later write_later =
+      let P : List ℕ → Type 0 = λ x. Talk t old new (turn ∷ []) [] new.unread x in
+      record {
+        talk = subst P (one_text text told) (talk_one text wrote);
+        waits = waits;
+        port_later = port_later;
+        read_later = read_later;
+        write_later = write_later;
+      }
+
+  -- its reply was not written whole
+  pub serve_broken : (text part : List ℕ) → new.held ≡ append_known old.held part → text ≡ text_in (desk t old) (first old) (old.count + 1) turn
+      → IsPart text part → Rose old.write_faults new.write_faults → old.count < 1000000 → Served t old new WriteFault
+  serve_broken text part wrote told some rose few = record {
+    answered = [];
+    broken = turn ∷ [];
+    behind = [];
+    rest = new.unread;
+    part = part;
+    talk = talk_one part wrote;
+    one = one_le_one;
+    few = λ _. count_on old.count 1000000 few;
+    going = inl (λ k d l. absurd (below_nothing k l));
+    mine = λ _. refl;
+    waits = λ _. waits;
+    ends = (text, inl (one_text text told ∙ ap (λ n. texts (desk t old) (first old) n (turn ∷ [])) (none_on (old.count + 1))), some, rose);
+  }

@@ -1,5 +1,8 @@
+pub mod Begun
+pub mod Bodies
 pub mod Conn
-pub mod Cut
-pub mod Parse
+pub mod Ends
+pub mod Points
 pub mod Spell
+pub mod Steps
 pub mod Talk

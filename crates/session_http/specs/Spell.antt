@@ -1,28 +1,34 @@
--- An input that spells requests and then ends in one way.
-use Rattle.std.specs.Prelude.{ℕ, ◌≡◌, ◌<◌, List, [], ◌++◌, length, flat_map, All, Option, Some}
-use Rattle.fh_model.specs.FolderRequests.{IsName, IsCut, IsBad, request_text}
+-- What an input spells, and where a connection ends that is sent it and in which nothing fails.
+use Rattle.std.specs.Prelude.{ℕ, ◌≡◌, ◌<◌, if◌then◌else◌, List, [], ◌∷◌, length, Option, Some}
+use Rattle.fh_model.specs.declared.limits.TheConstants.{REQUESTS_MAX}
+use Rattle.http_in.specs.Requests.{Request, Requests, Final, at_end, is_cut, is_bad, is_over}
+use Rattle.session_rules.specs.Asked.{asks_last}
 use Rattle.session_http.specs.declared.conn.ConnEnd.{ConnEnd}
-use Rattle.session_http.specs.declared.conn.ConnEnd.TheVariants.{Ended, Cut, Bad, ReadFault, WriteFault, DiskFault, NoMemory, Spent}
+use Rattle.session_http.specs.declared.conn.ConnEnd.TheVariants.{Ended, Cut, Bad}
 
--- the texts of requests for these names, joined
-abbrev pub spelling : List ℕ → List (List ℕ) → List ℕ
-spelling token names = flat_map (request_text token) names
+abbrev pub end_of : Final → ConnEnd
+end_of at_end = Ended
+end_of is_cut = Cut
+end_of is_bad = Bad
+end_of is_over = Bad
 
--- the ending that the bytes behind the last request are; the other ends of a connection are none
-abbrev pub IsEnding : ConnEnd → List ℕ → List ℕ → Type 0
-IsEnding Ended token tail = tail ≡ []
-IsEnding Cut token tail = IsCut token tail
-IsEnding Bad token tail = IsBad token tail
-IsEnding ReadFault token tail = ⊥
-IsEnding WriteFault token tail = ⊥
-IsEnding NoMemory token tail = ⊥
-IsEnding DiskFault token tail = ⊥
-IsEnding Spent token tail = ⊥
+-- behind the first request that asks for it, or by how the bytes end
+abbrev pub ending_of : List Request → Final → ConnEnd
+ending_of [] e = end_of e
+ending_of (r ∷ rs) e = if asks_last r.head then Ended else ending_of rs e
 
--- what is left spells fewer requests than a connection may have, and then has this ending
-pub record Spells (left : Option (List ℕ)) (token : List ℕ) (names : List (List ℕ)) (ending : ConnEnd) : Type 0 where
-  pub tail : List ℕ
-  pub bytes : left ≡ Some (spelling token names ++ tail)
-  pub named : All IsName names
-  pub few : length names < 1000000
-  pub ends : IsEnding ending token tail
+-- the requests up to that one
+abbrev pub heeded : List Request → List Request
+heeded [] = []
+heeded (r ∷ rs) = r ∷ (if asks_last r.head then [] else heeded rs)
+
+-- what is left spells requests, of which fewer are heeded than a connection may have, and so has this ending
+pub record Spells (left : Option (List ℕ)) (ending : ConnEnd) : Type 0 where
+  pub bytes : List ℕ
+  pub sent : List Request
+  pub rest : List ℕ
+  pub final : Final
+  pub is : left ≡ Some bytes
+  pub splits : Requests bytes sent rest final
+  pub few : length (heeded sent) < REQUESTS_MAX
+  pub ends : ending ≡ ending_of sent final

@@ -1,18 +1,19 @@
 ghost use Rattle.std.specs.Prelude.{◌≡◌, IfOk, IfErr};
 
 use fh_model::NoMemory;
+use http_in::Reader;
 use std::alloc::{AllocError, Global};
 
 /// How a connection ended.
 #[derive(Clone, Copy, Debug, PartialEq, Eq)]
 pub enum ConnEnd {
-    /// The input ended behind a request, or was empty.
+    /// The input ended behind a request, or was empty, or a request asked that the connection end.
     Ended,
 
     /// The input ended inside a request.
     Cut,
 
-    /// The bytes begin no request.
+    /// The bytes begin no request, or pass a limit.
     Bad,
 
     /// The source failed.
@@ -51,15 +52,16 @@ impl From<AllocError> for ConnEnd {
     }
 }
 
-/// As many bytes as a request has at most.
-pub(crate) const LONGEST_REQUEST_BYTES: usize = 512;
-
 /// A connection: where its requests come from, where its replies go, and what was read of it and not yet answered.
 #[derive(Drop)]
 pub struct Conn<S, K> {
     pub(crate) source: S,
     pub(crate) sink: K,
-    pub(crate) unread: Vec<u8>,
+    pub(crate) reader: Reader,
+
+    /// How many requests were answered.
+    pub(crate) answered: u64,
+    pub(crate) alloc: Global,
 }
 
 impl<S, K> Conn<S, K> {
@@ -71,13 +73,15 @@ impl<S, K> Conn<S, K> {
         ensures unread { IfOk result IsNew }
         ensures err { IfErr result (λ ends. (ends.0 ≡ source) × (ends.1 ≡ sink)) }
     {
-        match Vec::with_capacity(alloc, LONGEST_REQUEST_BYTES) {
-            Ok(unread) => Ok(Conn {
+        match Reader::new(alloc) {
+            Ok(reader) => Ok(Conn {
                 source,
                 sink,
-                unread,
+                reader,
+                answered: 0,
+                alloc,
             }),
-            Err(_) => Err((source, sink)),
+            Err(NoMemory) => Err((source, sink)),
         }
     }
 

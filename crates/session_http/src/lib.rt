@@ -1,16 +1,16 @@
 //! One connection: requests in, the machine's replies out.
 //!
-//! `serve_conn` reads requests from a source until it ends, lets the command of each enter through a port, and writes
-//! its reply to a sink. Its contract says all that it did as a list of requests: which bytes they were spelled in,
-//! at which point of the port's history each was answered, what was written, and why the connection ended. It
-//! promises nothing of how long a port, a source or a sink takes.
+//! `serve_conn` reads requests from a source until it ends or a request asks that the connection end, lets the command
+//! of each enter through a port or looks at the machine, and writes its reply to a sink. Its contract says all that it
+//! did as a list of turns: the requests whose bytes were read, the point of the port's history at which each was
+//! answered, what was written, and why the connection ended. It promises nothing of how long a port, a source or a sink
+//! takes.
 #![tactic(auto)]
 
+mod answering;
+mod bodies;
 mod conn;
-mod cut;
-mod reading;
-mod replies;
-mod request;
+mod receiving;
 mod serving;
 
 pub use conn::{Conn, ConnEnd};

@@ -1,0 +1,109 @@
+use Rattle.std.proofs.Common.{ℕ, ◌≤◌, [], ◌++◌, List, refl, ◌∙◌, take, arith, option_map}
+use Rattle.http_in.proofs.ReadingFacts.{place_inside, content_none, content_more, read_done, read_cut, read_bad, read_large, read_fault, read_memory, read_none}
+use Rattle.session_http.proofs.Kept.{holds_empty, keeps_more}
+use Rattle.session_http.proofs.bodies.read_body.Goals as goal
+
+pub portions-init : goal.portions-init
+portions-init g c =
+    let at = place_inside c.args.reader.now.state c.requires.inside in
+    record {
+      so_far = record {
+        content = [];
+        so_far = content_none g.S.Source.given g.S.Source.left c.args.source.now c.args.reader.now.held [] c.args.reader.now.state at.0 at.1;
+        holds = holds_empty (λ bytes. bytes.items) c.args.buffer c.requires.empty;
+      };
+      place = refl;
+      later = omega arith;
+    }
+
+pub portions-preserved : goal.portions-preserved
+portions-preserved g c =
+    let so = c.portions.invariant.so_far in
+    let more : List ℕ = take c.in-Bytes.count c.body.new.buf in
+    record {
+      so_far = record {
+        content = so.content ++ more;
+        so_far = content_more g.S.Source.given g.S.Source.left c.args.source.now c.portions.source c.body.new.source c.args.reader.now.held
+            c.portions.reader.held c.body.new.self.held c.args.reader.now.state c.portions.reader.state c.body.new.self.state
+            [] so.content (so.content ++ more) c.body.new.buf c.in-Bytes.count so.so_far c.in-Bytes.ensures.step refl;
+        holds = keeps_more (option_map (λ bytes. bytes.items) c.portions.kept) (option_map (λ bytes. bytes.items) c.keep-kept.result) so.content more so.holds c.keep-kept.ensures;
+      };
+      place = c.body.ensures.place ∙ c.portions.invariant.place;
+      later = omega (arith, c.portions.invariant.later, c.body.ensures.later);
+    }
+
+pub returns-in-Done-clause-read : goal.returns-in-Done-clause-read
+returns-in-Done-clause-read g c =
+    let so = c.portions.invariant.so_far in
+    record {
+      content = so.content;
+      read = read_done g.S.Source.given g.S.Source.left c.args.source.now c.portions.source c.body.new.source c.args.reader.now.held
+          c.portions.reader.held c.body.new.self.held c.args.reader.now.state c.portions.reader.state c.body.new.self.state
+          [] so.content so.so_far c.body.new.buf c.in-Done.ensures.step;
+      holds = so.holds;
+    }
+
+pub returns-in-Cut-clause-read : goal.returns-in-Cut-clause-read
+returns-in-Cut-clause-read g c =
+    let so = c.portions.invariant.so_far in
+    record {
+      content = so.content;
+      read = read_cut g.S.Source.given g.S.Source.left c.args.source.now c.portions.source c.body.new.source c.args.reader.now.held
+          c.portions.reader.held c.body.new.self.held c.args.reader.now.state c.portions.reader.state c.body.new.self.state
+          [] so.content so.so_far c.body.new.buf c.in-Cut.ensures.step;
+      holds = so.holds;
+    }
+
+pub returns-in-Bad-clause-read : goal.returns-in-Bad-clause-read
+returns-in-Bad-clause-read g c =
+    let so = c.portions.invariant.so_far in
+    record {
+      content = so.content;
+      read = read_bad g.S.Source.given g.S.Source.left c.args.source.now c.portions.source c.body.new.source c.args.reader.now.held
+          c.portions.reader.held c.body.new.self.held c.args.reader.now.state c.portions.reader.state c.body.new.self.state
+          [] so.content so.so_far c.body.new.buf c.in-Bad.ensures.step;
+      holds = so.holds;
+    }
+
+pub returns-in-TooLarge-clause-read : goal.returns-in-TooLarge-clause-read
+returns-in-TooLarge-clause-read g c =
+    let so = c.portions.invariant.so_far in
+    record {
+      content = so.content;
+      read = read_large g.S.Source.given g.S.Source.left c.args.source.now c.portions.source c.body.new.source c.args.reader.now.held
+          c.portions.reader.held c.body.new.self.held c.args.reader.now.state c.portions.reader.state c.body.new.self.state
+          [] so.content so.so_far c.body.new.buf c.in-TooLarge.ensures.step;
+      holds = so.holds;
+    }
+
+pub returns-in-ReadFault-clause-read : goal.returns-in-ReadFault-clause-read
+returns-in-ReadFault-clause-read g c =
+    let so = c.portions.invariant.so_far in
+    record {
+      content = so.content;
+      read = read_fault g.S.Source.given g.S.Source.left c.args.source.now c.portions.source c.body.new.source c.args.reader.now.held
+          c.portions.reader.held c.body.new.self.held c.args.reader.now.state c.portions.reader.state c.body.new.self.state
+          [] so.content so.so_far c.body.new.buf c.in-ReadFault.ensures.step;
+      holds = so.holds;
+    }
+
+pub returns-in-NoMemory-clause-read : goal.returns-in-NoMemory-clause-read
+returns-in-NoMemory-clause-read g c =
+    let so = c.portions.invariant.so_far in
+    record {
+      content = so.content;
+      read = read_memory g.S.Source.given g.S.Source.left c.args.source.now c.portions.source c.body.new.source c.args.reader.now.held
+          c.portions.reader.held c.body.new.self.held c.args.reader.now.state c.portions.reader.state c.body.new.self.state
+          [] so.content so.so_far c.body.new.buf c.in-NoMemory.ensures.step;
+      holds = so.holds;
+    }
+
+pub returns-clause-read : goal.returns-clause-read
+returns-clause-read g c =
+    let so = c.portions.invariant.so_far in
+    record {
+      content = so.content;
+      read = read_none g.S.Source.given g.S.Source.left c.args.source.now c.portions.source c.args.reader.now.held c.portions.reader.held
+          c.args.reader.now.state c.portions.reader.state [] so.content so.so_far;
+      holds = so.holds;
+    }
