@@ -8,7 +8,10 @@ use Rattle.fh_model.specs.declared.commands.Cmd.{Cmd}
 use Rattle.fh_model.specs.History.{state_of, with_more}
 use Rattle.fh_model.specs.State.{State}
 use Rattle.host_seat.specs.Port.{Leaves}
+use Rattle.http_in.specs.declared.head.Head.{Head}
 use Rattle.http_in.specs.Bodies.{done}
+use Rattle.http_in.specs.Heads.{BeginsWithHead}
+use Rattle.http_in.specs.Parts.{IsHeadOf}
 use Rattle.http_in.specs.Requests.{Request, BeginsWithBody}
 use Rattle.session_rules.specs.Asked.{asks_last, token_in}
 use Rattle.session_rules.specs.Connection.{Turn, interim_of}
@@ -87,6 +90,15 @@ pub record Passes (t : Terms) (old new : Moment) (bytes text : List ℕ) : Type 
 -- who calls is known, or memory was wanting for it
 abbrev pub IsKnown : List ℕ → State → RequestHead → Option Called → Type 0
 IsKnown admin s h call = IfSome call (λ it. called admin s h.method h.target (token_in h) ≡ it)
+
+-- the head of the next request was read, its interim text was written, and who calls was decided
+pub record Opens (t : Terms) (old new : Moment) (call : Option Called) (head : Head) : Type 0 where
+  pub asked : RequestHead
+  pub bytes : List ℕ
+  pub passes : Passes t old new bytes (interim_of asked)
+  pub begins : BeginsWithHead (old.unread ++ bytes) asked new.unread
+  pub is : IsHeadOf asked head
+  pub known : IsKnown t.admin (state_of new.seen) asked call
 
 -- a request was read whole, with its interim text written, and who calls was decided on the way
 pub record Hears (t : Terms) (old new : Moment) (call : Option Called) (last : Bool) (kept : Option (List ℕ)) : Type 0 where
