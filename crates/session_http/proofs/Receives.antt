@@ -135,7 +135,7 @@ module _ {K : Type 0} (held : K → Option (List ℕ)) (faults : K → ℕ) (a b
     passes = passes_written t old bytes [] breaks.part passes breaks.wrote;
     stops = (
       interim_text,
-      inl (inr (h, after, begins, interim_is h interim e is)),
+      inl (h, after, begins, interim_is h interim e is),
       breaks.some,
       broke t old bytes [] passes breaks.rose,
     );
@@ -209,7 +209,7 @@ module _ {P S K : Type 0} (p : view.Ghosts P) (s : source.Ghosts S) (k : sink.Gh
     bytes = next.fresh;
     part = [];
     passes = passes_next port a b ends held kept next.fresh next.moves later;
-    stops = (inl refl, rose);
+    stops = (inl (next.step_is.0, refl), rose);
   }
 
   pub stops_memory : (port : P) (a b : S) (ends : K) (held kept : List ℕ) → HeadCall s.given s.left a b held kept step.NoMemory → s.faults a ≤ s.faults b

@@ -17,7 +17,7 @@ use Rattle.session_rules.specs.Asked.{asks_last, token_in}
 use Rattle.session_rules.specs.Connection.{Turn, interim_of}
 use Rattle.session_rules.specs.Decisions.{Called, called}
 use Rattle.session_rules.specs.Replies.{Said, text_of, out_of_memory}
-use Rattle.session_http.specs.Begun.{IsBegun, IsCutShort}
+use Rattle.session_http.specs.Begun.{IsBegun, IsCutShort, IsGreeted, IsOpened}
 use Rattle.session_http.specs.Bodies.{Holds as HoldsContent}
 use Rattle.session_http.specs.Ends.{IsLastText, IsPart}
 use Rattle.session_http.specs.Talk.{Terms, Moment, Talk, replies}
@@ -65,9 +65,9 @@ abbrev pub StopsBy : ConnEnd → List Cmd → List ℕ → List ℕ → Moment �
 StopsBy Ended others rest part old new = (others ≡ []) × (rest ≡ []) × (part ≡ []) × IsAtEnd new.left
 StopsBy Cut others rest part old new = IsCutShort rest part × IsAtEnd new.left
 StopsBy Bad others rest part old new = IsLastText rest part
-StopsBy ReadFault others rest part old new = IsBegun rest part × Rose old.read_faults new.read_faults
+StopsBy ReadFault others rest part old new = IsOpened rest part × Rose old.read_faults new.read_faults
 StopsBy WriteFault others rest part old new =
-    (text : List ℕ) × (IsBegun rest text ⊎ IsLastText rest text) × IsPart text part × Rose old.write_faults new.write_faults
+    (text : List ℕ) × (IsGreeted rest text ⊎ IsLastText rest text) × IsPart text part × Rose old.write_faults new.write_faults
 StopsBy NoMemory others rest part old new = IsBegun rest part
 StopsBy DiskFault others rest part old new = ⊥
 StopsBy Spent others rest part old new = ⊥
