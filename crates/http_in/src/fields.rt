@@ -6,11 +6,14 @@ ghost use Rattle.http_in.specs.Values.{AreValues, IsNoted, first_of, value_if};
 use httparse::spans::HeaderSpan;
 
 /// Whether the names are one, without regard to case. Most are written as they are looked for, and then one
-/// comparison of all bytes tells it.
-pub(crate) fn is_name(a: &[u8], b: &[u8]) -> bool
-    ensures { result ≡ is_same_name a.now b.now }
+/// comparison of all bytes tells it. That is made by `starts_with`, which costs no call where the length is constant.
+pub(crate) fn is_name(name: &[u8], wanted: &[u8]) -> bool
+    ensures { result ≡ is_same_name name.now wanted.now }
 {
-    a == b || a.eq_ignore_ascii_case(b)
+    if name.len() != wanted.len() {
+        return false;
+    }
+    name.starts_with(wanted) || name.eq_ignore_ascii_case(wanted)
 }
 
 /// What the fields of a head say that is read: of each name the value of the first field.
@@ -43,29 +46,44 @@ fn keep_first<'a>(found: &mut Option<&'a [u8]>, wanted: &[u8], name: &[u8], valu
 }
 
 impl<'a> Values<'a> {
-    /// Notes one more field, behind those that were noted.
+    /// Notes one more field, behind those that were noted. Each name that is looked for has a length of its own, so a
+    /// field's name is compared with one of them at most.
     fn note(&mut self, name: &[u8], value: &'a [u8])
         requires { self.old.lengths < usize.MAX }
         ensures { IsNoted self.old (name.now, value.now) self.new }
     {
-        keep_first(&mut self.length, b"Content-Length".as_slice(), name, value);
-        keep_first(
-            &mut self.coding,
-            b"Transfer-Encoding".as_slice(),
-            name,
-            value,
-        );
-        keep_first(&mut self.expect, b"Expect".as_slice(), name, value);
-        keep_first(&mut self.connection, b"Connection".as_slice(), name, value);
-        keep_first(
-            &mut self.authorization,
-            b"Authorization".as_slice(),
-            name,
-            value,
-        );
-        keep_first(&mut self.arg, b"Dropbox-API-Arg".as_slice(), name, value);
+        match name.len() {
+            6 => keep_first(&mut self.expect, b"Expect".as_slice(), name, value),
+            10 => keep_first(&mut self.connection, b"Connection".as_slice(), name, value),
+            13 => keep_first(
+                &mut self.authorization,
+                b"Authorization".as_slice(),
+                name,
+                value,
+            ),
+            14 => self.note_length(name, value),
+            15 => keep_first(&mut self.arg, b"Dropbox-API-Arg".as_slice(), name, value),
+            17 => keep_first(
+                &mut self.coding,
+                b"Transfer-Encoding".as_slice(),
+                name,
+                value,
+            ),
+            _ => {}
+        }
+    }
+
+    /// Notes one more field whose name is as long as `Content-Length`.
+    fn note_length(&mut self, name: &[u8], value: &'a [u8])
+        requires room { self.old.lengths < usize.MAX }
+        requires long { length name.now ≡ 14 }
+        ensures { IsNoted self.old (name.now, value.now) self.new }
+    {
         if is_name(name, b"Content-Length".as_slice()) {
             self.lengths += 1;
+            if self.length.is_none() {
+                self.length = Some(value);
+            }
         }
     }
 }
