@@ -1,19 +1,32 @@
-ghost use Rattle.std.specs.Prelude.{◌≡◌, ◌<◌, ◌≤◌, length, map, All, option_map};
+ghost use Rattle.std.specs.Prelude.{◌≡◌, ℕ, ◌<◌, ◌≤◌, length, slice_index, map, All, IsTrue, option_map};
 ghost use Rattle.httparse.specs.Spans.{IsHeaderWithin, header_bytes};
 ghost use Rattle.http_in.specs.Fields.{is_same_name};
 ghost use Rattle.http_in.specs.Values.{AreValues, IsNoted, first_of, value_if};
 
 use httparse::spans::HeaderSpan;
 
-/// Whether the names are one, without regard to case. Most are written as they are looked for, and then one
-/// comparison of all bytes tells it. That is made by `starts_with`, which costs no call where the length is constant.
+/// Whether the names are one, without regard to case. Most are written as they are looked for, which is tested first.
+#[inline(always)]
 pub(crate) fn is_name(name: &[u8], wanted: &[u8]) -> bool
     ensures { result ≡ is_same_name name.now wanted.now }
 {
     if name.len() != wanted.len() {
         return false;
     }
-    name.starts_with(wanted) || name.eq_ignore_ascii_case(wanted)
+    has_bytes(name, wanted) || name.eq_ignore_ascii_case(wanted)
+}
+
+/// Whether the bytes are the same. The loop has no early exit, so that a constant length leaves no loop and no call.
+#[inline(always)]
+fn has_bytes(name: &[u8], wanted: &[u8]) -> bool
+    requires { length name.now ≡ length wanted.now }
+    ensures { IsTrue result → (k : ℕ) → k < length wanted.now → slice_index name.now k ≡ slice_index wanted.now k }
+{
+    let mut same = true;
+    for i in 0..wanted.len() {
+        same &= name[i] == wanted[i];
+    }
+    same
 }
 
 /// What the fields of a head say that is read: of each name the value of the first field.
