@@ -1,6 +1,6 @@
 -- What a request comes to, in the order of refusals: a target that is no route, a method other than POST, a token that
 -- is missing or nobody's, an argument that isn't read. Else it comes to an act or to a look.
-use Rattle.std.specs.Prelude.{ℕ, codes, Bool, if◌then◌else◌, List, Option, None, Some, Result, Ok, Err}
+use Rattle.std.specs.Prelude.{ℕ, codes, if◌then◌else◌, List, Option, None, Some, Result, Ok, Err}
 use Rattle.std.specs.Str.{bytes_eq}
 use Rattle.fh_model.specs.declared.commands.Act.{Act}
 use Rattle.fh_model.specs.declared.commands.Act.TheVariants.{MakeFolder}

@@ -1,5 +1,5 @@
 -- What the calls of this crate answer, by the definitions.
-use Rattle.std.specs.Prelude.{◌≡◌, ℕ, List, Option, None, Some, option_and_then, option_map}
+use Rattle.std.specs.Prelude.{◌≡◌, ℕ, List, Option, option_and_then}
 use Rattle.fh_model.specs.State.{State, token_user}
 use Rattle.session_rules.specs.declared.deciding.Caller.{Caller}
 use Rattle.session_rules.specs.declared.deciding.Caller.TheVariants as caller

@@ -1,11 +1,10 @@
 -- What replies say: a status and a body, and the text that these make.
-use Rattle.std.specs.Prelude.{ℕ, codes, Bool, true, false, if◌then◌else◌, List, [], ◌∷◌, Option, None, Some}
+use Rattle.std.specs.Prelude.{ℕ, codes, Bool, false, if◌then◌else◌, List, [], ◌∷◌, Option, None, Some}
 use Rattle.fh_model.specs.declared.changes.Node.{Node}
 use Rattle.fh_model.specs.declared.commands.Act.{Act}
 use Rattle.fh_model.specs.declared.commands.Act.TheVariants.{MakeFolder}
 use Rattle.fh_model.specs.declared.names.Name.{Name}
 use Rattle.fh_model.specs.declared.replies.Entry.TheVariants.{Folder}
-use Rattle.fh_model.specs.declared.replies.Refusal.{Refusal}
 use Rattle.fh_model.specs.declared.replies.Reply.{Reply}
 use Rattle.fh_model.specs.declared.replies.Reply.TheVariants.{Entry, Refused}
 use Rattle.fh_model.specs.Nodes.{id_of}

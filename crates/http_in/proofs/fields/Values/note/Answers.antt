@@ -6,7 +6,7 @@ use Rattle.http_in.proofs.fields.Values.note.Goals as goal
 pub returns-in-15 : goal.returns-in-15
 returns-in-15 c =
     let P : List ℕ → Type 0 = λ w. option_map (λ b. b.now) c.keep_first-in-15.new.found
-        ≡ first_of (option_map (λ b. b.now) c.args.self.now.arg) (value_if w (c.args.name.now, c.args.value.now)) in
+    ≡ first_of (option_map (λ b. b.now) c.args.self.now.arg) (value_if w (c.args.name.now, c.args.value.now)) in
     record {
       length_is = unfound (option_map (λ b. b.now) c.args.self.now.length) (codes "content-length") c.args.name.now c.args.value.now 15 c.in-15.is (λ (e : 15 ≡ 14). omega (arith, e));
       lengths_is = uncounted c.args.self.now.lengths (codes "content-length") c.args.name.now 15 c.in-15.is (λ (e : 15 ≡ 14). omega (arith, e));
