@@ -38,6 +38,8 @@ module _ {D S K X Y Z : Type 0} (d : disk.Ghosts D) (s : source.Ghosts S) (k : s
     start = h.start;
     kept = h.kept;
     waiting = h.waiting;
+    count = h.count;
+    unread = h.unread;
     end = h.end;
     is = h.is;
     from = h.from;
