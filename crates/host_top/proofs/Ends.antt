@@ -338,16 +338,16 @@ nothing_opened of_disk of_source of_sink only_now disk s k = record {
 pub nothing_served : {D S K : Type 0} (of_disk : disk.Ghosts D) (of_source : source.Ghosts S) (of_sink : sink.Ghosts K) (second : Option ℕ) (admin : List ℕ) (store : Opened D) (s : S) (k : K)
     → Ran of_disk store store → StoreServed of_disk of_source of_sink second admin store store s s k k status.NoMemory
 nothing_served of_disk of_source of_sink second admin store s k ran =
-  let here : Moment = alone_with of_source of_sink store.image store.waiting (of_disk.faults store.disk) s k 0 [] in
-  record {
-  count = 0;
-  unread = [];
-  end = end.NoMemory;
-  is = refl;
-  served = serve_none end.NoMemory (terms true second admin) here here [] [] [] (known_none here.given) (known_nothing here.left) (known_none here.held)
-      (kept_none store.image) refl (λ _. inl refl) (λ _. refl) none_yet (refl, inl refl);
-  ran = ran;
-}
+    let here : Moment = alone_with of_source of_sink store.image store.waiting (of_disk.faults store.disk) s k 0 [] in
+    record {
+      count = 0;
+      unread = [];
+      end = end.NoMemory;
+      is = refl;
+      served = serve_none end.NoMemory (terms true second admin) here here [] [] [] (known_none here.given) (known_nothing here.left) (known_none here.held)
+          (kept_none store.image) refl (λ _. inl refl) (λ _. refl) none_yet (refl, inl refl);
+      ran = ran;
+    }
 
 -- the store was not opened
 pub refused_opening : {D S K : Type 0} (of_disk : disk.Ghosts D) (of_source : source.Ghosts S) (of_sink : sink.Ghosts K) (disk_old disk_new : D) (s : S) (k : K) (f : StoreFault) (result : Status)

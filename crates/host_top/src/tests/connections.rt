@@ -209,9 +209,17 @@ fn a_strange_byte_is_bad_in_a_head_and_no_json_in_a_body(rt: HostRuntime) -> Res
         }
         let (status, sink) = run(&rt, &input)?;
         let in_head = place < head;
-        assert!(rt; status == if in_head { Status::Bad } else { Status::Done }, "at {place}");
         assert!(rt;
-            sink.bytes() == if in_head { bad.as_slice() } else { no_json.as_slice() },
+            status == if in_head { Status::Bad } else { Status::Done },
+            "at {place}"
+        );
+        assert!(rt;
+            sink.bytes()
+                == if in_head {
+                    bad.as_slice()
+                } else {
+                    no_json.as_slice()
+                },
             "at {place}"
         );
     }

@@ -29,16 +29,19 @@ enum Told {
 const INVALID_TOKEN: &str =
     "{\"error\":{\".tag\":\"invalid_access_token\"},\"error_summary\":\"invalid_access_token/...\"}";
 
-const MADE_A: &str = "{\"metadata\":{\"id\":\"id:0000000000000001\",\"name\":\"a\",\"path_display\":\"/a\",\"path_lower\":\"/a\"}}";
+const MADE_A: &str =
+    "{\"metadata\":{\"id\":\"id:0000000000000001\",\"name\":\"a\",\"path_display\":\"/a\",\"path_lower\":\"/a\"}}";
 
-const MALFORMED: &str = "{\"error\":{\".tag\":\"path\",\"path\":{\".tag\":\"malformed_path\"}},\"error_summary\":\"path/malformed_path/...\"}";
+const MALFORMED: &str =
+    "{\"error\":{\".tag\":\"path\",\"path\":{\".tag\":\"malformed_path\"}},\"error_summary\":\"path/malformed_path/...\"}";
 
-const NOT_FOUND: &str = "{\"error\":{\".tag\":\"path\",\"path\":{\".tag\":\"not_found\"}},\"error_summary\":\"path/not_found/...\"}";
+const NOT_FOUND: &str =
+    "{\"error\":{\".tag\":\"path\",\"path\":{\".tag\":\"not_found\"}},\"error_summary\":\"path/not_found/...\"}";
 
-const CONFLICT: &str = "{\"error\":{\".tag\":\"path\",\"path\":{\".tag\":\"conflict\",\"conflict\":{\".tag\":\"folder\"}}},\"error_summary\":\"path/conflict/folder/...\"}";
+const CONFLICT: &str =
+    "{\"error\":{\".tag\":\"path\",\"path\":{\".tag\":\"conflict\",\"conflict\":{\".tag\":\"folder\"}}},\"error_summary\":\"path/conflict/folder/...\"}";
 
-const MAKE_BAD_JSON: &str =
-    "Error in call to API function \"files/create_folder_v2\": bad json";
+const MAKE_BAD_JSON: &str = "Error in call to API function \"files/create_folder_v2\": bad json";
 
 const MAKE_BAD_PATH: &str =
     "Error in call to API function \"files/create_folder_v2\": bad field path";
@@ -48,11 +51,9 @@ const MAKE_BAD_AUTORENAME: &str =
 
 const LOOK_BAD_JSON: &str = "Error in call to API function \"files/get_metadata\": bad json";
 
-const LOOK_BAD_PATH: &str =
-    "Error in call to API function \"files/get_metadata\": bad field path";
+const LOOK_BAD_PATH: &str = "Error in call to API function \"files/get_metadata\": bad field path";
 
-const MAKE: &str =
-    "POST /2/files/create_folder_v2 HTTP/1.1\r\nAuthorization: Bearer rootroot\r\n";
+const MAKE: &str = "POST /2/files/create_folder_v2 HTTP/1.1\r\nAuthorization: Bearer rootroot\r\n";
 
 const LOOK: &str = "POST /2/files/get_metadata HTTP/1.1\r\nAuthorization: Bearer rootroot\r\n";
 
@@ -76,7 +77,9 @@ fn reply(alloc: Global, told: Told) -> Result<String, AllocError> {
         Told::Refused(body) => ("409 Conflict", json, body),
     };
     let length = body.len();
-    let text = format!(in alloc; "HTTP/1.1 {line}\r\nContent-Type: {kind}\r\nContent-Length: {length}\r\n\r\n{body}")?;
+    let text = format!(in alloc;
+        "HTTP/1.1 {line}\r\nContent-Type: {kind}\r\nContent-Length: {length}\r\n\r\n{body}"
+    )?;
     Ok(text)
 }
 
@@ -171,10 +174,7 @@ const ARGUMENTS: [(&[u8], Told); 16] = [
     (b"null", Told::Complaint(MAKE_BAD_PATH)),
     (b"[\"/a\"]", Told::Complaint(MAKE_BAD_PATH)),
     (b"{\"path\":null}", Told::Complaint(MAKE_BAD_PATH)),
-    (
-        b"{\"autorename\":true}",
-        Told::Complaint(MAKE_BAD_PATH),
-    ),
+    (b"{\"autorename\":true}", Told::Complaint(MAKE_BAD_PATH)),
     (
         b"{\"path\":\"/a\",\"autorename\":true}",
         Told::Complaint(MAKE_BAD_AUTORENAME),
