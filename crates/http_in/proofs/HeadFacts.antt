@@ -8,7 +8,7 @@ use Rattle.httparse.specs.declared.spans.RequestSpans.{RequestSpans}
 use Rattle.http_in.specs.declared.head.Head.{Head as HeadParts}
 use Rattle.http_in.specs.declared.heads.Step.{Step}
 use Rattle.http_in.specs.declared.heads.Step.TheVariants.{Head, End, Cut, Bad, HeadTooLarge, ReadFault, NoMemory}
-use Rattle.http_in.specs.Heads.{BeginsWithHead, HasManyFields, IsOverlong, IsBad, IsCut}
+use Rattle.http_in.specs.Heads.{BeginsWithHead, HasManyFields, HasNoHead, IsOverlong, IsBad, IsCut}
 use Rattle.http_in.specs.Framing.{framing_in, IsMisframed}
 use Rattle.http_in.specs.Parts.{IsPartsOf, IsHeadOf}
 use Rattle.http_in.specs.Verdicts.{IsWhole, IsUnfinished, IsTaken}
@@ -40,6 +40,10 @@ pub cut_held : (held now : List ℕ) → IsUnfinished held → now ≡ held → 
 cut_held held now unfinished same some =
     let is : IsUnfinished now = subst IsUnfinished (sym same) unfinished in
     record { some = some; short = is.short; unfinished = is.none; hopeful = is.hopeful }
+
+-- the source failed where no head is whole yet
+pub fault_held : (held now : List ℕ) → IsUnfinished held → now ≡ held → HasNoHead now
+fault_held held now unfinished same = subst HasNoHead (sym same) unfinished.none
 
 -- the head of the bytes at hand
 whole_begins : (held : List ℕ) (spans : List HeaderSpan) (r : RequestSpans) → (w : IsWhole held spans r)

@@ -13,6 +13,10 @@ pub record BeginsWithHead (bytes : List ℕ) (h : RequestHead) (rest : List ℕ)
   pub short : length (print_request h) ≤ HEAD_MAX_BYTES
   pub few : length h.fields ≤ HEAD_MAX_LINES
 
+-- no head is whole in the bytes
+abbrev pub HasNoHead : List ℕ → Type 0
+HasNoHead bytes = HasNoRequest bytes
+
 -- the judged bytes hold a head of more than 64 field lines
 abbrev pub HasManyFields : List ℕ → Type 0
 HasManyFields bytes =

@@ -7,7 +7,7 @@ use Rattle.http_in.specs.declared.heads.Step.{Step}
 use Rattle.http_in.specs.declared.heads.Step.TheVariants.{Head, End, Cut, Bad, HeadTooLarge, ReadFault, NoMemory}
 use Rattle.http_in.specs.declared.place.State.{State}
 use Rattle.http_in.specs.declared.place.State.TheVariants.{Between, Inside, Ended}
-use Rattle.http_in.specs.Heads.{BeginsWithHead, IsCut, IsBad, IsOver}
+use Rattle.http_in.specs.Heads.{BeginsWithHead, HasNoHead, IsCut, IsBad, IsOver}
 use Rattle.http_in.specs.Framing.{IsMisframed}
 use Rattle.http_in.specs.Parts.{IsHeadOf, limit_of}
 use Rattle.http_in.specs.Stands.{place_of}
@@ -19,7 +19,7 @@ IsStepOf bytes End kept = (bytes ≡ []) × (kept ≡ [])
 IsStepOf bytes Cut kept = IsCut bytes × (kept ≡ bytes)
 IsStepOf bytes Bad kept = (IsBad bytes ⊎ IsMisframed bytes) × (kept ≡ bytes)
 IsStepOf bytes HeadTooLarge kept = IsOver bytes × (kept ≡ bytes)
-IsStepOf bytes ReadFault kept = kept ≡ bytes
+IsStepOf bytes ReadFault kept = HasNoHead bytes × (kept ≡ bytes)
 IsStepOf bytes NoMemory kept = kept ≡ bytes
 
 -- the source has no byte left where the answer is about its end

@@ -91,7 +91,7 @@ impl Held {
         ensures end { result ≡ Filled.End → IsAtEnd (S.left source.new) × (self.new ≡ self.old) }
         ensures place { S.place source.new ≡ S.place source.old }
         ensures later { S.faults source.old ≤ S.faults source.new }
-        ensures fault { result ≡ Filled.Fault → Rose (S.faults source.old) (S.faults source.new) }
+        ensures fault { result ≡ Filled.Fault → Rose (S.faults source.old) (S.faults source.new) × (self.new ≡ self.old) }
     {
         move_to_front(&mut self.buffer, self.start, self.end);
         self.end -= self.start;

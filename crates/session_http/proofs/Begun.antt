@@ -1,5 +1,5 @@
 -- What bytes begin with, said of longer ones.
-use Rattle.std.proofs.Common.{◌≡◌, ℕ, List, [], ◌∷◌, ◌++◌}
+use Rattle.std.proofs.Common.{ℕ, List, [], ◌∷◌, ◌++◌}
 use Rattle.http_in.specs.Bodies.{done}
 use Rattle.http_in.specs.Requests.{Request, BeginsWithBody, Requests, more, Final}
 use Rattle.http_in.proofs.MoreBytes.{done_request}

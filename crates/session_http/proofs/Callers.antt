@@ -1,11 +1,11 @@
 -- What one call of the port means for a request.
 use Rattle.std.proofs.Common.{◌≡◌, ℕ, List, [], ◌∷◌, ◌++◌, Bool, true, false, Option, None, Some, refl, sym, ◌∙◌, ap, append-nil}
 use Rattle.fh_model.specs.declared.commands.Act.{Act}
+use Rattle.fh_model.specs.declared.commands.Act.TheVariants.{MakeFolder}
 use Rattle.fh_model.specs.declared.commands.Cmd.{Cmd}
 use Rattle.fh_model.specs.declared.replies.Reply.{Reply}
-use Rattle.fh_model.specs.History.{Kept, state_of, state_after, with_more}
+use Rattle.fh_model.specs.History.{Kept, state_of, with_more}
 use Rattle.fh_model.specs.Resolve.{resolve}
-use Rattle.fh_model.specs.State.{State}
 use Rattle.fh_model.proofs.Runs.{state_more, reply_more, next_more}
 use Rattle.host_seat.specs.Port.{Commits, Looks, OthersEnter, Leaves}
 use Rattle.api_types.specs.declared.answer.Answer.{Answer}
@@ -14,7 +14,7 @@ use Rattle.session_rules.specs.Decisions.{Called, called, Decision, says, enters
 use Rattle.session_rules.specs.Replies.{Said, answered, answer_to, answer_to_look, text_of}
 use Rattle.session_http.specs.Points.{Calls, Acts, Misses, IsStuck}
 
-with_nothing : (kept : Kept) → kept ≡ with_more kept []
+pub with_nothing : (kept : Kept) → kept ≡ with_more kept []
 with_nothing kept = ap (λ (h : List Cmd). record { start = kept.start; history = h }) (sym (append-nil kept.history))
 
 with_others : (old new : Kept) (others : List Cmd) → new ≡ with_more old others → new ≡ with_more old (others ++ [])
@@ -66,6 +66,11 @@ acts_entered alone seat at old new act close text reply commits told = record {
   grown = commits.grown ∙ next_more old commits.others (cmd_of seat at act);
   mine = commits.mine;
 }
+
+-- what is told of a reply is told of that to any act that makes a folder
+pub folder_told : (act : Act) (reply : Reply) (a : Answer) → ((user : ℕ) (path : List ℕ) (rename : Bool) → a ≡ answer_to (MakeFolder user path rename) reply)
+    → a ≡ answer_to act reply
+folder_told (MakeFolder user path rename) reply a h = h user path rename
 
 -- ---- where memory was wanting
 

@@ -1,12 +1,10 @@
 -- Where no fault rose, the end of a connection is the one that its input spells, or memory was wanting. Bytes that end in a
 -- request target whose text is broken may be cut or bad.
-use Rattle.std.proofs.Common.{◌≡◌, ℕ, ◌+◌, ◌≤◌, ◌<◌, List, [], ◌∷◌, ◌++◌, length, if◌then◌else◌, Option, None, Some, refl, sym, ◌∙◌, ap, subst, append_assoc, append-nil, arith, length-append, inl, inr, ◌⊎◌, Bool, true, false}
-use Rattle.std.specs.Prelude.{All}
+use Rattle.std.proofs.Common.{◌≡◌, ℕ, ◌+◌, ◌≤◌, ◌<◌, List, [], ◌∷◌, ◌++◌, length, if◌then◌else◌, Option, None, Some, refl, sym, ◌∙◌, ap, subst, append-nil, arith, inl, inr, ◌⊎◌, Bool, true, false}
 use Rattle.std.proofs.lemmas.List.Elements.{All-head, All-tail}
 use Rattle.std.specs.Io.KnownBytes.{IsAtEnd, prepend_known}
 use Rattle.fh_world.specs.Causes.{Rose}
 use Rattle.fh_model.specs.declared.commands.Cmd.{Cmd}
-use Rattle.http_in.specs.Bodies.{done}
 use Rattle.http_in.specs.Framing.{IsMisframed}
 use Rattle.http_in.specs.Heads.{IsBad, IsOpenTarget}
 use Rattle.http_in.specs.Requests.{Request, Requests, none, more, Final, at_end, is_cut, is_bad, is_over, EndsAs}
@@ -98,12 +96,12 @@ heeded_last : (turns : List Turn) (later : List Request) → EndsLast turns → 
 heeded_last turns later h =
     let P : List Turn → Type 0 = λ l. length l ≤ length (heeded (requests l ++ later)) in
     subst P (sym h.2) (go h.0 h.3) where
-  go : (earlier : List Turn) → GoOn earlier → length (earlier ++ h.1 ∷ []) ≤ length (heeded (requests (earlier ++ h.1 ∷ []) ++ later))
-  go [] g = omega arith
-  go (turn ∷ earlier) g =
-      let tail = go earlier (All-tail (λ u. asks_last u.asked.head ≡ false) turn earlier g) in
-      let same = if_not (asks_last turn.asked.head) [] (heeded (requests (earlier ++ h.1 ∷ []) ++ later)) (All-head (λ u. asks_last u.asked.head ≡ false) turn earlier g) in
-      omega (arith, tail, ap length same)
+      go : (earlier : List Turn) → GoOn earlier → length (earlier ++ h.1 ∷ []) ≤ length (heeded (requests (earlier ++ h.1 ∷ []) ++ later))
+      go [] g = omega arith
+      go (turn ∷ earlier) g =
+          let tail = go earlier (All-tail (λ u. asks_last u.asked.head ≡ false) turn earlier g) in
+          let same = if_not (asks_last turn.asked.head) [] (heeded (requests (earlier ++ h.1 ∷ []) ++ later)) (All-head (λ u. asks_last u.asked.head ≡ false) turn earlier g) in
+          omega (arith, tail, ap length same)
 
 -- ---- the endings of what was read behind them
 
@@ -135,6 +133,7 @@ module _ (t : Terms) (before now : Moment) (ending : ConnEnd) (turns : List Turn
   by_final e going ends = settle one.2 where
     one : ([] ≡ b.later) × ((rest ++ l) ≡ s.rest) × ((e ≡ s.final) ⊎ IsOpenTarget (rest ++ l))
     one = one_reading_holds (rest ++ l) [] b.later (rest ++ l) s.rest e s.final (none (rest ++ l) e ends) b.splits
+
     settle : ((e ≡ s.final) ⊎ IsOpenTarget (rest ++ l)) → (end_of e ≡ ending) ⊎ IsOpenTarget s.rest
     settle (inr apart) = inr (subst IsOpenTarget one.1 apart)
     settle (inl same) =
@@ -171,7 +170,7 @@ module _ (t : Terms) (before now : Moment) (ending : ConnEnd) (new : before.unre
       let all = sent_behind s.bytes (h.rest ++ f.0) s.rest (requests (h.answered ++ h.broken)) s.sent s.final f.2 s.splits in
       (f.0, f.1, subst P (ap (λ (b : List Turn). h.answered ++ b) whole ∙ append-nil h.answered) all)
 
-  Found : ConnEnd → Type 0
+  abbrev pub Found : ConnEnd → Type 0
   Found end = (end ≡ ending) ⊎ ((end ≡ NoMemory) ⊎ IsOpenTarget s.rest)
 
   found : (end : ConnEnd) → ((end ≡ ending) ⊎ IsOpenTarget s.rest) → Found end

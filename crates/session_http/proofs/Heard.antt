@@ -1,52 +1,140 @@
 -- A head and its body, as calls of the reader gave them, are one request.
-use Rattle.std.proofs.Common.{◌≡◌, ℕ, List, [], ◌++◌, Option, refl, sym, ◌∙◌, subst, append_assoc}
-use Rattle.httparse.specs.Grammar.{RequestHead}
-use Rattle.fh_world.specs.Bytes.{Moves}
-use Rattle.http_in.specs.declared.all.BodyEnd.{BodyEnd}
-use Rattle.http_in.specs.declared.head.Head.{Head as HeadParts}
-use Rattle.http_in.specs.declared.heads.Step.TheVariants.{Head}
+use Rattle.std.proofs.Common.{◌≡◌, ℕ, ◌≤◌, List, [], ◌++◌, Option, refl, sym, ◌∙◌, ap, subst, append_assoc, arith, inl, inr}
+use Rattle.std.specs.Io.KnownBytes.{IsAtEnd, append_known, prepend_known}
+use Rattle.fh_world.specs.Causes.{Rose}
+use Rattle.fh_model.specs.History.{Kept, state_of}
+use Rattle.http_in.specs.declared.head.Head.{Head}
 use Rattle.http_in.specs.declared.place.Place.{Place}
 use Rattle.http_in.specs.declared.place.State.{State}
 use Rattle.http_in.specs.declared.place.State.TheVariants.{Inside}
-use Rattle.http_in.specs.Bodies.{Ending, BodyFrom}
+use Rattle.http_in.specs.Bodies.{Ending, BodyFrom, done, cut, bad, too_large}
 use Rattle.http_in.specs.Heads.{BeginsWithHead}
 use Rattle.http_in.specs.Parts.{limit_of}
-use Rattle.http_in.specs.Readings.{ContentRead}
 use Rattle.http_in.specs.Requests.{Request, BeginsWithBody}
 use Rattle.http_in.specs.Stands.{place_of}
-use Rattle.http_in.specs.Steps.{HeadCall}
 use Rattle.http_in.proofs.MoreBytes.{head_more}
-use Rattle.http_in.proofs.SourceFacts.{moves_more}
+use Rattle.session_rules.specs.Connection.{interim_of}
+use Rattle.session_rules.specs.Decisions.{Called}
+use Rattle.session_rules.specs.Replies.{bad_request, body_too_large}
+use Rattle.session_http.specs.Begun.{IsRefused}
+use Rattle.session_http.specs.Bodies.{Holds}
+use Rattle.session_http.specs.Steps.{Hears, IsKnown, Opens, Passes, Stops}
+use Rattle.session_http.specs.Talk.{Terms, Moment}
+use Rattle.session_http.specs.declared.conn.ConnEnd.TheVariants.{Cut, ReadFault, NoMemory}
+use Rattle.session_http.proofs.Ones.{at_most}
+use Rattle.session_http.proofs.Points.{last_same}
+use Rattle.session_http.proofs.Talks.{known_more, known_less, rose_since}
+
+-- what reading leaves as it was
+pub record Beside (mid new : Moment) : Type 0 where
+  pub seen : new.seen ≡ mid.seen
+  pub waits : new.waits ≡ mid.waits
+  pub number : new.number ≡ mid.number
+  pub count : new.count ≡ mid.count
+  pub port_faults : new.port_faults ≡ mid.port_faults
+  pub held : new.held ≡ mid.held
+  pub write_faults : new.write_faults ≡ mid.write_faults
+  pub read_later : mid.read_faults ≤ new.read_faults
 
 same_place : (p q : Place) → Inside p ≡ Inside q → p ≡ q
 same_place p q e = cc
 
-module _ {S : Type 0} (given left : S → Option (List ℕ)) (old mid new : S) (held between kept : List ℕ) (head : HeadParts) (state : State) (content : List ℕ) (end : BodyEnd)
-    (next : HeadCall given left old mid held between (Head head)) (is : state ≡ Inside (place_of (limit_of head.target.items) head.length))
-    (read : ContentRead given left mid new between kept state [] content end) where
-  abbrev pub heard : RequestHead
-  heard = next.step_is.0
+at_most_same : (a b c : ℕ) → a ≤ b → c ≡ b → a ≤ c
+at_most_same a b c h e = omega (arith, h, e)
 
-  -- the bytes at hand begin with it, however they came
-  pub head_begins : BeginsWithHead (held ++ (next.fresh ++ read.fresh)) heard (between ++ read.fresh)
-  head_begins =
-      let Q : List ℕ → Type 0 = λ b. BeginsWithHead b heard (between ++ read.fresh) in
-      subst Q (append_assoc held next.fresh read.fresh) (head_more (held ++ next.fresh) read.fresh between heard next.step_is.1)
+module _ (t : Terms) (old mid new : Moment) (call : Option Called) (head : Head) (opens : Opens t old mid call head) (state : State)
+    (at : state ≡ Inside (place_of (limit_of head.target.items) head.length)) (place : Place) (inside : state ≡ Inside place)
+    (fresh added content : List ℕ) (gave : new.given ≡ append_known mid.given fresh) (took : mid.left ≡ prepend_known fresh new.left)
+    (beside : Beside mid new) (gained : content ≡ [] ++ added) where
+  abbrev pub bytes : List ℕ
+  bytes = opens.bytes ++ fresh
 
-  pub request_begins : (e : Ending) → BodyFrom read.place (between ++ read.fresh) read.added e
-      → BeginsWithBody (held ++ (next.fresh ++ read.fresh)) (record { head = heard; content = content }) e
-  request_begins e body =
-      let same = same_place read.place (place_of (limit_of head.target.items) head.length) (sym read.inside ∙ is) in
-      let P : Place → Type 0 = λ p. BodyFrom p (between ++ read.fresh) read.added e in
-      let Q : List ℕ → Type 0 = λ g. BodyFrom (place_of (limit_of g) head.length) (between ++ read.fresh) read.added e in
-      let R : List ℕ → Type 0 = λ c. BodyFrom (place_of (limit_of heard.target) head.length) (between ++ read.fresh) c e in
+  abbrev pub asked : Request
+  asked = record { head = opens.asked; content = content }
+
+  -- the body was read behind the head
+  pub passes_body : Passes t old new bytes (interim_of opens.asked)
+  passes_body =
+      let h = opens.passes in
       record {
-        framing = head.length;
-        middle = between ++ read.fresh;
-        begins = head_begins;
-        framed = next.step_is.2.length_is;
-        body = subst R (sym read.gained) (subst Q next.step_is.2.target_is (subst P same body));
+        others = h.others;
+        gave = gave ∙ ap (λ o. append_known o fresh) h.gave ∙ known_more old.given opens.bytes fresh;
+        took = h.took ∙ ap (prepend_known opens.bytes) took ∙ known_less new.left opens.bytes fresh;
+        wrote = beside.held ∙ h.wrote;
+        grown = beside.seen ∙ h.grown;
+        mine = h.mine;
+        waits = beside.waits ∙ h.waits;
+        number = beside.number ∙ h.number;
+        count = beside.count ∙ h.count;
+        port_faults = beside.port_faults ∙ h.port_faults;
+        read_later = at_most old.read_faults mid.read_faults new.read_faults h.read_later beside.read_later;
+        write_later = at_most_same old.write_faults mid.write_faults new.write_faults h.write_later beside.write_faults;
       }
 
-  pub request_moves : Moves given left old new (next.fresh ++ read.fresh)
-  request_moves = moves_more given left old mid new next.fresh read.fresh next.moves read.moves
+  -- the bytes at hand begin with the head, however they came
+  head_begins : BeginsWithHead (old.unread ++ bytes) opens.asked (mid.unread ++ fresh)
+  head_begins =
+      let Q : List ℕ → Type 0 = λ b. BeginsWithHead b opens.asked (mid.unread ++ fresh) in
+      subst Q (append_assoc old.unread opens.bytes fresh) (head_more (old.unread ++ opens.bytes) fresh mid.unread opens.asked opens.begins)
+
+  pub request_begins : (e : Ending) → BodyFrom place (mid.unread ++ fresh) added e → BeginsWithBody (old.unread ++ bytes) asked e
+  request_begins e body =
+      let same = same_place place (place_of (limit_of head.target.items) head.length) (sym inside ∙ at) in
+      let P : Place → Type 0 = λ p. BodyFrom p (mid.unread ++ fresh) added e in
+      let Q : List ℕ → Type 0 = λ g. BodyFrom (place_of (limit_of g) head.length) (mid.unread ++ fresh) added e in
+      let R : List ℕ → Type 0 = λ c. BodyFrom (place_of (limit_of opens.asked.target) head.length) (mid.unread ++ fresh) c e in
+      record {
+        framing = head.length;
+        middle = mid.unread ++ fresh;
+        begins = head_begins;
+        framed = opens.is.length_is;
+        body = subst R (sym gained) (subst Q opens.is.target_is (subst P same body));
+      }
+
+  known_on : IsKnown t.admin (state_of new.seen) opens.asked call
+  known_on =
+      let P : Kept → Type 0 = λ k. IsKnown t.admin (state_of k) opens.asked call in
+      subst P (sym beside.seen) opens.known
+
+  -- the request is whole
+  pub hears : (kept : Option (List ℕ)) → Holds kept content → BodyFrom place (mid.unread ++ fresh) added (done new.unread)
+      → Hears t old new call head.last kept
+  hears kept holds body = record {
+    asked = asked;
+    bytes = bytes;
+    passes = passes_body;
+    begins = request_begins (done new.unread) body;
+    known = known_on;
+    asked_last = last_same opens.asked head opens.is;
+    holds = holds;
+  }
+
+  pub stops_cut : BodyFrom place (mid.unread ++ fresh) added cut → IsAtEnd new.left → Stops t old new Cut
+  stops_cut body at_end = record {
+    bytes = bytes;
+    part = interim_of opens.asked;
+    passes = passes_body;
+    stops = (inr (asked, request_begins cut body, refl), at_end);
+  }
+
+  pub stops_read : Rose mid.read_faults new.read_faults → Stops t old new ReadFault
+  stops_read rose = record {
+    bytes = bytes;
+    part = interim_of opens.asked;
+    passes = passes_body;
+    stops = (inr (opens.asked, mid.unread ++ fresh, head_begins, refl), rose_since old.read_faults mid.read_faults new.read_faults opens.passes.read_later rose);
+  }
+
+  pub stops_memory : Stops t old new NoMemory
+  stops_memory = record {
+    bytes = bytes;
+    part = interim_of opens.asked;
+    passes = passes_body;
+    stops = inr (opens.asked, mid.unread ++ fresh, head_begins, refl);
+  }
+
+  pub refused_bad : BodyFrom place (mid.unread ++ fresh) added bad → IsRefused (old.unread ++ bytes) (interim_of opens.asked) bad_request
+  refused_bad body = inr (inr (inl (asked, request_begins bad body, refl, refl)))
+
+  pub refused_large : BodyFrom place (mid.unread ++ fresh) added too_large → IsRefused (old.unread ++ bytes) (interim_of opens.asked) (body_too_large head.target.items)
+  refused_large body = inr (inr (inr (asked, request_begins too_large body, refl, ap body_too_large opens.is.target_is)))

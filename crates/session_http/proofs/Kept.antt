@@ -1,5 +1,5 @@
 -- A body that is kept goes on.
-use Rattle.std.proofs.Common.{◌≡◌, ℕ, List, [], ◌++◌, Option, None, Some, refl, ◌∙◌, ap, subst, sym, option_map, IfSome}
+use Rattle.std.proofs.Common.{◌≡◌, ℕ, List, [], ◌++◌, Option, None, Some, ◌∙◌, ap, subst, option_map, IfSome}
 use Rattle.session_http.specs.Bodies.{Holds, KeepsOn}
 
 same_some : (a b : List ℕ) → Some a ≡ Some b → a ≡ b

@@ -1,22 +1,19 @@
 -- One request from its reading to its reply: what was heard, what the port did, and what was written make its turn.
-use Rattle.std.proofs.Common.{◌≡◌, ◌≢◌, ℕ, ◌+◌, ◌<◌, ◌≤◌, List, [], ◌∷◌, ◌++◌, Option, None, Some, IfSome, Bool, IsTrue, length, take, refl, sym, ◌∙◌, ap, subst, append_assoc, arith, inl}
+use Rattle.std.proofs.Common.{◌≡◌, ℕ, suc, ◌+◌, ◌<◌, ◌≤◌, List, [], ◌∷◌, ◌++◌, Option, None, Some, Bool, length, take, sym, ◌∙◌, ap, subst, append_assoc, arith}
 use Rattle.std.specs.Io.KnownBytes.{append_known, prepend_known}
 use Rattle.fh_world.specs.Causes.{Rose}
 use Rattle.fh_model.specs.declared.commands.Cmd.{Cmd}
-use Rattle.fh_model.specs.History.{Kept, with_more}
-use Rattle.fh_model.proofs.Runs.{with_more_more}
+use Rattle.fh_model.specs.History.{with_more}
 use Rattle.host_seat.specs.Port.{Leaves}
 use Rattle.http_in.specs.Bodies.{done}
 use Rattle.http_in.specs.Requests.{Request, BeginsWithBody}
-use Rattle.session_rules.specs.Connection.{Turn, Kind, told, unavailable, closes, interim_of, said, text_in, gained_in}
-use Rattle.session_rules.specs.Decisions.{Called, decided}
-use Rattle.session_rules.specs.Replies.{text_of, out_of_memory}
+use Rattle.session_rules.specs.Connection.{Turn, closes, interim_of, said, text_in, gained_in}
+use Rattle.session_rules.specs.Decisions.{Called}
+use Rattle.session_rules.specs.Replies.{text_of}
 use Rattle.session_http.specs.Ends.{IsPart, Served}
-use Rattle.session_http.specs.Points.{Acts, Misses}
 use Rattle.session_http.specs.Steps.{Hears, Turned}
 use Rattle.session_http.specs.Talk.{Terms, Moment, IsTurn, desk, first}
 use Rattle.session_http.specs.declared.conn.ConnEnd.TheVariants.{WriteFault}
-use Rattle.session_http.proofs.Points.{turn_of, told_turn, grown_turn, grown_missed}
 use Rattle.session_http.proofs.Serves.{turned, serve_broken}
 
 -- what a call of the port and a write leave as it was
@@ -30,7 +27,7 @@ pub record Stays (mid new : Moment) : Type 0 where
   pub port_later : mid.port_faults ≤ new.port_faults
   pub write_later : mid.write_faults ≤ new.write_faults
 
-held_more : (o : Option (List ℕ)) (a b : List ℕ) (m n : Option (List ℕ)) → m ≡ append_known o a → n ≡ append_known m b → n ≡ append_known o (a ++ b)
+pub held_more : (o : Option (List ℕ)) (a b : List ℕ) (m n : Option (List ℕ)) → m ≡ append_known o a → n ≡ append_known m b → n ≡ append_known o (a ++ b)
 held_more None a b m n e f = f ∙ ap (λ x. append_known x b) e
 held_more (Some x) a b m n e f = f ∙ ap (λ y. append_known y b) e ∙ ap Some (append_assoc x a b)
 
@@ -40,24 +37,27 @@ leaves_from a b c e h = subst (λ (x : List Cmd). Leaves x [] c) e h
 at_most_from : (a b c : ℕ) → b ≡ a → b ≤ c → a ≤ c
 at_most_from a b c e h = omega (arith, e, h)
 
-at_most_to : (a b c : ℕ) → a ≤ b → c ≡ b → a ≤ c
+pub at_most_to : (a b c : ℕ) → a ≤ b → c ≡ b → a ≤ c
 at_most_to a b c h e = omega (arith, h, e)
 
-at_most : (a b c : ℕ) → a ≤ b → b ≤ c → a ≤ c
+pub at_most : (a b c : ℕ) → a ≤ b → b ≤ c → a ≤ c
 at_most a b c h g = omega (arith, h, g)
 
 zero_on : (n : ℕ) → n ≡ 0 + n
 zero_on n = omega arith
 
+suc_on : (k n : ℕ) → suc (k + n) ≡ suc k + n
+suc_on k n = omega arith
+
 part_on : (a b : List ℕ) (n : ℕ) → a ++ take n b ≡ take (length a + n) (a ++ b)
 part_on [] b n = ap (λ k. take k b) (zero_on n)
-part_on (x ∷ a) b n = ap (λ (l : List ℕ). x ∷ l) (part_on a b n) ∙ ap (λ k. take k (x ∷ (a ++ b))) (omega arith)
+part_on (x ∷ a) b n = ap (λ (l : List ℕ). x ∷ l) (part_on a b n) ∙ ap (λ k. take k (x ∷ (a ++ b))) (suc_on (length a) n)
 
 -- some of a text behind another is some of both
-part_more : (a b part : List ℕ) → IsPart b part → IsPart (a ++ b) (a ++ part)
+pub part_more : (a b part : List ℕ) → IsPart b part → IsPart (a ++ b) (a ++ part)
 part_more a b part h = (length a + h.0, ap (λ (l : List ℕ). a ++ l) h.1 ∙ part_on a b h.0)
 
-rose_from : (a b c : ℕ) → a ≤ b → Rose b c → Rose a c
+pub rose_from : (a b c : ℕ) → a ≤ b → Rose b c → Rose a c
 rose_from a b c l h = omega (arith, h)
 
 module _ (t : Terms) (old mid new : Moment) (call : Option Called) (last : Bool) (kept : Option (List ℕ)) (h : Hears t old mid call last kept)

@@ -1,5 +1,5 @@
 -- How the points of a port's calls make the turn of a request.
-use Rattle.std.proofs.Common.{◌≡◌, ℕ, List, [], ◌∷◌, ◌++◌, Bool, if◌then◌else◌, Option, None, Some, IfSome, refl, sym, ◌∙◌, ap, append_assoc, option_map, IsTrue}
+use Rattle.std.proofs.Common.{◌≡◌, ℕ, List, [], ◌++◌, Bool, if◌then◌else◌, Option, None, Some, IfSome, sym, ◌∙◌, ap, append_assoc, option_map}
 use Rattle.httparse.specs.Grammar.{RequestHead}
 use Rattle.fh_model.specs.declared.commands.Cmd.{Cmd}
 use Rattle.fh_model.specs.History.{Kept, state_of, state_after, with_more}
@@ -10,8 +10,8 @@ use Rattle.http_in.specs.Requests.{Request}
 use Rattle.http_in.specs.declared.head.Head.{Head}
 use Rattle.session_rules.specs.Asked.{asks_last, token_in, waits, waits_by}
 use Rattle.session_rules.specs.Connection.{Desk, Turn, Kind, told, unavailable, told_by, entered_by, decision, state_at, said, gained_in}
-use Rattle.session_rules.specs.Decisions.{Called, called, Decision, decided}
-use Rattle.session_rules.specs.Replies.{out_of_memory, text_of}
+use Rattle.session_rules.specs.Decisions.{Called, called, decided}
+use Rattle.session_rules.specs.Replies.{text_of}
 use Rattle.session_http.specs.Points.{Acts, Misses}
 
 -- what a head says is what the definitions read in it
@@ -48,7 +48,7 @@ module _ (desk : Desk) (old mid : Kept) (r : Request) (others : List Cmd) (it : 
   state_mid : state_of mid ≡ state_after (state_of old) others
   state_mid = ap state_of before ∙ state_more old others
 
-  decision_same : (at : ℕ) (between : List Cmd) (kind : Kind) → decision desk (state_of old) (turn_of at between kind) ≡ decided r.content it
+  pub decision_same : (at : ℕ) (between : List Cmd) (kind : Kind) → decision desk (state_of old) (turn_of at between kind) ≡ decided r.content it
   decision_same at between kind =
       ap (decided r.content) (ap (λ s. called desk.admin s r.head.method r.head.target (token_in r.head)) (sym state_mid) ∙ is)
 

@@ -1,6 +1,5 @@
 -- What a connection did from a moment on, said of it from its start.
 use Rattle.std.proofs.Common.{◌≡◌, ◌≢◌, ℕ, ◌+◌, ◌<◌, ◌≤◌, List, [], ◌∷◌, ◌++◌, length, refl, sym, ◌∙◌, ap, subst, append_assoc, append-nil, arith, length-append, inl, inr, ◌⊎◌, Bool, true, false, IsTrue}
-use Rattle.std.specs.Prelude.{All}
 use Rattle.std.proofs.lemmas.List.Elements.{All-append, All-cons}
 use Rattle.std.specs.Io.KnownBytes.{IsAtEnd, append_known, prepend_known}
 use Rattle.fh_world.specs.Causes.{Rose}
@@ -11,7 +10,6 @@ use Rattle.http_in.specs.Bodies.{done}
 use Rattle.http_in.specs.Requests.{BeginsWithBody}
 use Rattle.session_rules.specs.Asked.{asks_last}
 use Rattle.session_rules.specs.Connection.{Turn, cmd_of, decision, gained_in, text_in, texts}
-use Rattle.session_rules.specs.Decisions.{enters}
 use Rattle.session_http.specs.Begun.{stay}
 use Rattle.session_http.specs.Talk.{Terms, Moment, IsTurn, Talk, desk, first, added, state_behind, replies, replies_behind}
 use Rattle.session_http.specs.Ends.{GoOn, EndsLast, IsPart, IsWritten, IsStopped, EndsBy, Served}
@@ -19,7 +17,7 @@ use Rattle.session_http.specs.Steps.{Turned, StopsBy, Stops}
 use Rattle.session_http.specs.declared.conn.ConnEnd.{ConnEnd}
 use Rattle.session_http.specs.declared.conn.ConnEnd.TheVariants.{Ended, Cut, Bad, ReadFault, WriteFault, DiskFault, NoMemory, Spent}
 use Rattle.session_http.proofs.Begun.{begins_one}
-use Rattle.session_http.proofs.Talks.{talk_starts, talk_on, talk_seen, state_on, same_desk, replies_on, leaves_more, rose_since}
+use Rattle.session_http.proofs.Talks.{talk_starts, talk_on, state_on, same_desk, replies_on, leaves_more, rose_since}
 
 below_nothing : (k : ℕ) → k < 0 → ⊥
 below_nothing k h = omega arith
@@ -68,7 +66,7 @@ module _ (t : Terms) (before mid now : Moment) (so : SoFar t before mid) where
       ap (λ d. texts d (state_behind t mid answered) (mid.count + 1 + length answered) broken) (same_desk t before mid so.turns (replies t before so.turns) so.talk)
       ∙ ap (λ s. texts (desk t before) s (mid.count + 1 + length answered) broken) (state_on t before mid so.turns (replies t before so.turns) so.talk answered)
       ∙ ap (λ k. texts (desk t before) (state_behind t before (so.turns ++ answered)) k broken)
-          (number_on before.count (length so.turns) mid.count (length answered) 0 (length (so.turns ++ answered)) so.counted (length-append so.turns answered))
+      (number_on before.count (length so.turns) mid.count (length answered) 0 (length (so.turns ++ answered)) so.counted (length-append so.turns answered))
 
   written_on : (answered broken : List Turn) (rest text : List ℕ) → IsWritten t mid answered broken rest text → IsWritten t before (so.turns ++ answered) broken rest text
   written_on answered broken rest text (inl e) = inl (e ∙ text_on answered broken)

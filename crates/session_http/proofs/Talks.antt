@@ -1,26 +1,24 @@
 -- A talk goes on: what is done from a moment on comes behind what was done up to it.
-use Rattle.std.proofs.Common.{◌≡◌, ℕ, ◌+◌, ◌<◌, ◌≤◌, arith, List, [], ◌∷◌, ◌++◌, Option, None, Some, length, map, refl, sym, ◌∙◌, ap, subst, append_assoc, append-nil, inl, inr}
-use Rattle.std.specs.Prelude.{All}
+use Rattle.std.proofs.Common.{◌≡◌, ℕ, ◌+◌, ◌<◌, ◌≤◌, arith, List, [], ◌∷◌, ◌++◌, Option, None, Some, length, refl, sym, ◌∙◌, ap, subst, append_assoc, append-nil, inl, inr}
 use Rattle.std.proofs.lemmas.List.Elements.{All-append}
 use Rattle.std.specs.Io.KnownBytes.{append_known, prepend_known}
 use Rattle.fh_world.specs.Causes.{Rose}
 use Rattle.fh_model.specs.declared.commands.Cmd.{Cmd}
-use Rattle.fh_model.specs.History.{Kept, state_of, state_after, with_more}
-use Rattle.fh_model.specs.State.{State}
+use Rattle.fh_model.specs.History.{state_of, state_after, with_more}
 use Rattle.fh_model.proofs.Runs.{state_more, with_more_more, state_after-append}
 use Rattle.host_seat.specs.Port.{Leaves}
 use Rattle.http_in.specs.Requests.{Request}
-use Rattle.session_rules.specs.Connection.{Desk, Turn, texts, gained}
+use Rattle.session_rules.specs.Connection.{Turn, texts, gained}
 use Rattle.session_rules.proofs.Turns.{gained-append, texts-append}
 use Rattle.session_http.specs.Begun.{Begins, stay}
-use Rattle.session_http.specs.Talk.{Terms, Moment, IsTurn, Talk, desk, requests, first, added, state_behind, replies, replies_behind}
+use Rattle.session_http.specs.Talk.{Terms, Moment, IsTurn, Talk, desk, requests, first, added, state_behind, replies}
 use Rattle.session_http.proofs.Begun.{begins_more, begins_on}
 
-known_more : (o : Option (List ℕ)) (a b : List ℕ) → append_known (append_known o a) b ≡ append_known o (a ++ b)
+pub known_more : (o : Option (List ℕ)) (a b : List ℕ) → append_known (append_known o a) b ≡ append_known o (a ++ b)
 known_more None a b = refl
 known_more (Some x) a b = ap Some (append_assoc x a b)
 
-known_less : (o : Option (List ℕ)) (a b : List ℕ) → prepend_known a (prepend_known b o) ≡ prepend_known (a ++ b) o
+pub known_less : (o : Option (List ℕ)) (a b : List ℕ) → prepend_known a (prepend_known b o) ≡ prepend_known (a ++ b) o
 known_less None a b = refl
 known_less (Some x) a b = ap Some (sym (append_assoc a b x))
 

@@ -3,7 +3,7 @@ use Rattle.std.specs.Prelude.{◌≡◌, ◌⊎◌, ℕ, List, [], ◌∷◌}
 use Rattle.httparse.specs.Grammar.{RequestHead}
 use Rattle.http_in.specs.Bodies.{done, cut, bad, too_large}
 use Rattle.http_in.specs.Framing.{IsMisframed}
-use Rattle.http_in.specs.Heads.{BeginsWithHead, IsBad, IsCut, IsOver}
+use Rattle.http_in.specs.Heads.{BeginsWithHead, HasNoHead, IsBad, IsCut, IsOver}
 use Rattle.http_in.specs.Requests.{Request, BeginsWithBody}
 use Rattle.session_rules.specs.Connection.{interim_of}
 use Rattle.session_rules.specs.Replies.{Said, bad_request, body_too_large, head_too_large}
@@ -16,9 +16,17 @@ pub data Begins : List ℕ → List Request → List ℕ → Type 0 where
 
 -- ---- the rest, where it is no whole request, and what is written of its own accord before a reply
 
--- Nothing was written for it, or the interim text that its head calls for.
+-- its head is whole, and this is the interim text that it calls for
+abbrev pub IsGreeted : List ℕ → List ℕ → Type 0
+IsGreeted rest before = (h : RequestHead) × (after : List ℕ) × BeginsWithHead rest h after × (before ≡ interim_of h)
+
+-- no head is whole, and so nothing was written for it, or the interim text was
+abbrev pub IsOpened : List ℕ → List ℕ → Type 0
+IsOpened rest before = (HasNoHead rest × (before ≡ [])) ⊎ IsGreeted rest before
+
+-- the same, but that the interim text may be missing
 abbrev pub IsBegun : List ℕ → List ℕ → Type 0
-IsBegun rest before = (before ≡ []) ⊎ ((h : RequestHead) × (after : List ℕ) × BeginsWithHead rest h after × (before ≡ interim_of h))
+IsBegun rest before = (before ≡ []) ⊎ IsGreeted rest before
 
 -- it ends inside a request
 abbrev pub IsCutShort : List ℕ → List ℕ → Type 0

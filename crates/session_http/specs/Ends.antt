@@ -12,7 +12,7 @@ use Rattle.session_rules.specs.Asked.{asks_last}
 use Rattle.session_rules.specs.Connection.{Turn, cmd_of, decision, interim_of}
 use Rattle.session_rules.specs.Decisions.{enters}
 use Rattle.session_rules.specs.Replies.{Said, out_of_memory, text_of}
-use Rattle.session_http.specs.Begun.{IsBegun, IsCutShort, IsRefused}
+use Rattle.session_http.specs.Begun.{IsBegun, IsCutShort, IsGreeted, IsOpened, IsRefused}
 use Rattle.session_http.specs.Talk.{Terms, Moment, IsTurn, Talk, desk, replies, replies_behind, state_behind}
 use Rattle.session_http.specs.declared.conn.ConnEnd.{ConnEnd}
 use Rattle.session_http.specs.declared.conn.ConnEnd.TheVariants.{Ended, Cut, Bad, ReadFault, WriteFault, DiskFault, NoMemory, Spent}
@@ -37,7 +37,7 @@ IsLastText rest text = (before : List ℕ) × (it : Said) × IsRefused rest befo
 -- what is being written behind the replies: that to a whole request, an interim text, or the last text
 abbrev pub IsWritten : Terms → Moment → List Turn → List Turn → List ℕ → List ℕ → Type 0
 IsWritten t before answered broken rest text =
-    (text ≡ replies_behind t before answered broken) ⊎ ((broken ≡ []) × (IsBegun rest text ⊎ IsLastText rest text))
+    (text ≡ replies_behind t before answered broken) ⊎ ((broken ≡ []) × (IsGreeted rest text ⊎ IsLastText rest text))
 
 -- a whole request stands at the front of the rest whose command the disk failed to take, so that it may wait
 pub record IsStopped (t : Terms) (before now : Moment) (answered : List Turn) (behind : List Cmd) (rest part : List ℕ) : Type 0 where
@@ -59,7 +59,7 @@ EndsBy Ended t before now answered broken behind rest part =
     (broken ≡ []) × (behind ≡ []) × (part ≡ []) × (((rest ≡ []) × IsAtEnd now.left) ⊎ EndsLast answered)
 EndsBy Cut t before now answered broken behind rest part = (broken ≡ []) × IsCutShort rest part × IsAtEnd now.left
 EndsBy Bad t before now answered broken behind rest part = (broken ≡ []) × IsLastText rest part
-EndsBy ReadFault t before now answered broken behind rest part = (broken ≡ []) × IsBegun rest part × Rose before.read_faults now.read_faults
+EndsBy ReadFault t before now answered broken behind rest part = (broken ≡ []) × IsOpened rest part × Rose before.read_faults now.read_faults
 EndsBy WriteFault t before now answered broken behind rest part =
     (text : List ℕ) × IsWritten t before answered broken rest text × IsPart text part × Rose before.write_faults now.write_faults
 EndsBy DiskFault t before now answered broken behind rest part =

@@ -4,7 +4,6 @@ use Rattle.fh_model.specs.declared.commands.Act.{Act}
 use Rattle.fh_model.specs.declared.commands.Cmd.{Cmd}
 use Rattle.fh_model.specs.declared.memory.NoMemory.{NoMemory}
 use Rattle.fh_model.specs.History.{Kept, state_of, state_after, with_more}
-use Rattle.fh_model.specs.State.{State}
 use Rattle.host_seat.specs.Port.{Leaves}
 use Rattle.api_types.specs.declared.route.Route.{Route}
 use Rattle.session_rules.specs.Connection.{cmd_of, told_by, entered_by}

@@ -8,13 +8,16 @@ use Rattle.fh_model.specs.declared.commands.Cmd.{Cmd}
 use Rattle.fh_model.specs.History.{state_of, with_more}
 use Rattle.fh_model.specs.State.{State}
 use Rattle.host_seat.specs.Port.{Leaves}
+use Rattle.http_in.specs.declared.head.Head.{Head}
 use Rattle.http_in.specs.Bodies.{done}
+use Rattle.http_in.specs.Heads.{BeginsWithHead}
+use Rattle.http_in.specs.Parts.{IsHeadOf}
 use Rattle.http_in.specs.Requests.{Request, BeginsWithBody}
 use Rattle.session_rules.specs.Asked.{asks_last, token_in}
 use Rattle.session_rules.specs.Connection.{Turn, interim_of}
 use Rattle.session_rules.specs.Decisions.{Called, called}
 use Rattle.session_rules.specs.Replies.{Said, text_of, out_of_memory}
-use Rattle.session_http.specs.Begun.{IsBegun, IsCutShort}
+use Rattle.session_http.specs.Begun.{IsBegun, IsCutShort, IsGreeted, IsOpened}
 use Rattle.session_http.specs.Bodies.{Holds as HoldsContent}
 use Rattle.session_http.specs.Ends.{IsLastText, IsPart}
 use Rattle.session_http.specs.Talk.{Terms, Moment, Talk, replies}
@@ -62,9 +65,9 @@ abbrev pub StopsBy : ConnEnd → List Cmd → List ℕ → List ℕ → Moment �
 StopsBy Ended others rest part old new = (others ≡ []) × (rest ≡ []) × (part ≡ []) × IsAtEnd new.left
 StopsBy Cut others rest part old new = IsCutShort rest part × IsAtEnd new.left
 StopsBy Bad others rest part old new = IsLastText rest part
-StopsBy ReadFault others rest part old new = IsBegun rest part × Rose old.read_faults new.read_faults
+StopsBy ReadFault others rest part old new = IsOpened rest part × Rose old.read_faults new.read_faults
 StopsBy WriteFault others rest part old new =
-    (text : List ℕ) × (IsBegun rest text ⊎ IsLastText rest text) × IsPart text part × Rose old.write_faults new.write_faults
+    (text : List ℕ) × (IsGreeted rest text ⊎ IsLastText rest text) × IsPart text part × Rose old.write_faults new.write_faults
 StopsBy NoMemory others rest part old new = IsBegun rest part
 StopsBy DiskFault others rest part old new = ⊥
 StopsBy Spent others rest part old new = ⊥
@@ -87,6 +90,15 @@ pub record Passes (t : Terms) (old new : Moment) (bytes text : List ℕ) : Type 
 -- who calls is known, or memory was wanting for it
 abbrev pub IsKnown : List ℕ → State → RequestHead → Option Called → Type 0
 IsKnown admin s h call = IfSome call (λ it. called admin s h.method h.target (token_in h) ≡ it)
+
+-- the head of the next request was read, its interim text was written, and who calls was decided
+pub record Opens (t : Terms) (old new : Moment) (call : Option Called) (head : Head) : Type 0 where
+  pub asked : RequestHead
+  pub bytes : List ℕ
+  pub passes : Passes t old new bytes (interim_of asked)
+  pub begins : BeginsWithHead (old.unread ++ bytes) asked new.unread
+  pub is : IsHeadOf asked head
+  pub known : IsKnown t.admin (state_of new.seen) asked call
 
 -- a request was read whole, with its interim text written, and who calls was decided on the way
 pub record Hears (t : Terms) (old new : Moment) (call : Option Called) (last : Bool) (kept : Option (List ℕ)) : Type 0 where

@@ -1,11 +1,13 @@
 //! Reads the next request of a connection, and decides on the way who calls which route.
 ghost use Rattle.std.specs.Prelude.{◌≡◌, ◌≤◌, [], true, IsTrue, IfOk, OnOk, OnErr, IfErr, IfSome, option_map};
 ghost use Rattle.fh_world.specs.Bytes.{Holds};
+ghost use Rattle.http_in.specs.Parts.{limit_of};
+ghost use Rattle.http_in.specs.Stands.{place_of};
 ghost use Rattle.session_rules.specs.Connection.{interim_if};
 ghost use Rattle.session_rules.specs.Replies.{Said, interim_text, text_of};
 ghost use Rattle.session_http.specs.Conn.{source_of, sink_of};
 ghost use Rattle.session_http.specs.Points.{called_if};
-ghost use Rattle.session_http.specs.Steps.{Breaks, Hears, SaysLast, Stops};
+ghost use Rattle.session_http.specs.Steps.{Breaks, Hears, Opens, SaysLast, Stops};
 ghost use Rattle.session_http.specs.Talk.{moment, terms};
 
 use crate::answering::{Call, find_caller};
@@ -14,7 +16,7 @@ use crate::conn::{Conn, ConnEnd};
 use fh_model::{LAST_SECOND, NoMemory, Text};
 use fh_world::{Clock, Failed, Sink, Source};
 use host_seat::Port;
-use http_in::{BodyEnd, State, Step};
+use http_in::{BodyEnd, Head, State, Step};
 use http_out::out_of_memory;
 use session_rules::{bad_request_reply, body_too_large_reply, head_too_large_reply, interim};
 use std::alloc::Global;
@@ -93,6 +95,60 @@ fn buffer_for(alloc: Global, call: &Result<Call, NoMemory>) -> Option<Vec<u8>>
     }
 }
 
+/// A head that was read, and what was decided by it.
+#[derive(Drop)]
+struct Opened {
+    head: Head,
+
+    /// The clock's second as it was read.
+    at: u64,
+
+    /// Who calls, where memory served to find out.
+    call: Result<Call, NoMemory>,
+}
+
+/// Reads the next head of a connection, and writes the interim text where it calls for it. Where there is no head it says
+/// why the connection ends, and has written its last text.
+fn read_head<P: Port, S: Source, K: Sink, C: Clock>(
+    port: &mut P,
+    conn: &mut Conn<S, K>,
+    clock: &mut C,
+    admin: &Text,
+) -> Result<Opened, ConnEnd>
+    requires { conn.old.reader.state ≡ State.Between }
+    ensures ok { IfOk result (λ opened. Opens (terms P.alone (C.second clock.old) admin.now)
+        (moment P.View S.Source K.Sink port.old (source_of conn.old) (sink_of conn.old) conn.old.answered conn.old.reader.held)
+        (moment P.View S.Source K.Sink port.new (source_of conn.new) (sink_of conn.new) conn.new.answered conn.new.reader.held)
+        (called_if opened.call) opened.head) }
+    ensures err { IfErr result (λ end. Stops (terms P.alone (C.second clock.old) admin.now)
+        (moment P.View S.Source K.Sink port.old (source_of conn.old) (sink_of conn.old) conn.old.answered conn.old.reader.held)
+        (moment P.View S.Source K.Sink port.new (source_of conn.new) (sink_of conn.new) conn.new.answered conn.new.reader.held) end) }
+    ensures range { IfOk result (λ opened. opened.at ≤ LAST_SECOND) }
+    ensures timed { IfOk result (λ opened. IfSome (C.second clock.old) (λ s. opened.at ≡ s)) }
+    ensures inside { IfOk result (λ opened. conn.new.reader.state ≡ State.Inside (place_of (limit_of opened.head.target.items) opened.head.length)) }
+    ensures second { C.second clock.new ≡ C.second clock.old }
+    ensures went { P.went port.old port.new }
+    ensures source_place { S.place (source_of conn.new) ≡ S.place (source_of conn.old) }
+    ensures sink_place { K.place (sink_of conn.new) ≡ K.place (sink_of conn.old) }
+{
+    let alloc = conn.alloc;
+    let head = match conn.reader.next(&mut conn.source) {
+        Step::Head(head) => head,
+        Step::End => return Err(ConnEnd::Ended),
+        Step::Cut => return Err(ConnEnd::Cut),
+        Step::Bad => return Err(refuse(&mut conn.sink, bad_request_reply(alloc))),
+        Step::HeadTooLarge => return Err(refuse(&mut conn.sink, head_too_large_reply(alloc))),
+        Step::ReadFault => return Err(ConnEnd::ReadFault),
+        Step::NoMemory => return Err(ConnEnd::NoMemory),
+    };
+    let at = clock.seconds();
+    let call = find_caller(port, admin, &head);
+    match greet(&mut conn.sink, head.interim) {
+        Ok(()) => Ok(Opened { head, at, call }),
+        Err(end) => Err(end),
+    }
+}
+
 /// Reads the next request of a connection to its end, and writes the interim text where its head calls for it. Where
 /// there is no whole request it says why the connection ends, and has written its last text.
 pub(crate) fn receive<P: Port, S: Source, K: Sink, C: Clock>(
@@ -118,21 +174,11 @@ pub(crate) fn receive<P: Port, S: Source, K: Sink, C: Clock>(
     ensures sink_place { K.place (sink_of conn.new) ≡ K.place (sink_of conn.old) }
 {
     let alloc = conn.alloc;
-    let head = match conn.reader.next(&mut conn.source) {
-        Step::Head(head) => head,
-        Step::End => return Err(ConnEnd::Ended),
-        Step::Cut => return Err(ConnEnd::Cut),
-        Step::Bad => return Err(refuse(&mut conn.sink, bad_request_reply(alloc))),
-        Step::HeadTooLarge => return Err(refuse(&mut conn.sink, head_too_large_reply(alloc))),
-        Step::ReadFault => return Err(ConnEnd::ReadFault),
-        Step::NoMemory => return Err(ConnEnd::NoMemory),
-    };
-    let at = clock.seconds();
-    let call = find_caller(port, admin, &head);
-    match greet(&mut conn.sink, head.interim) {
-        Ok(()) => {}
+    let opened = match read_head(port, conn, clock, admin) {
+        Ok(opened) => opened,
         Err(end) => return Err(end),
-    }
+    };
+    let Opened { head, at, call } = opened;
     let kept = buffer_for(alloc, &call);
     let mut portion = [0u8; PORTION_BYTES];
     let (end, kept) = read_body(&mut conn.reader, &mut conn.source, &mut portion, kept);

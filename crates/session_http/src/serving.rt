@@ -1,5 +1,5 @@
 //! Serves the requests of a connection in order.
-ghost use Rattle.std.specs.Prelude.{◌≡◌, ◌≤◌, ◌<◌, ◌+◌, [], IfOk, OnOk, IfErr};
+ghost use Rattle.std.specs.Prelude.{◌≡◌, ◌≤◌, ◌<◌, ◌+◌, ◌||◌, ◌==◌, [], IfOk, OnOk, IfErr};
 ghost use Rattle.session_http.specs.Conn.{source_of, sink_of, IsNew};
 ghost use Rattle.session_http.specs.Ends.{Served};
 ghost use Rattle.session_http.specs.Steps.{GoesOn};
@@ -14,6 +14,13 @@ use host_seat::{CommitFault, Port};
 use http_in::State;
 use http_out::out_of_memory;
 
+/// Whether the connection ends with the reply to the request of this number, counted from 1.
+fn is_last(asked: bool, number: u64) -> bool
+    ensures { result ≡ (asked || (number == REQUESTS_MAX)) }
+{
+    asked || number == REQUESTS_MAX
+}
+
 /// Serves the next request of a connection, and answers whether it goes on.
 fn serve_one<P: Port, S: Source, K: Sink, C: Clock>(
     port: &mut P,
@@ -23,9 +30,9 @@ fn serve_one<P: Port, S: Source, K: Sink, C: Clock>(
 ) -> Result<bool, ConnEnd>
     requires between { conn.old.reader.state ≡ State.Between }
     requires few { conn.old.answered < REQUESTS_MAX }
-    ensures ok { IfOk result (λ open. GoesOn (terms P.alone (C.second clock.old) admin.now)
+    ensures ok { IfOk result (λ goes. GoesOn (terms P.alone (C.second clock.old) admin.now)
         (moment P.View S.Source K.Sink port.old (source_of conn.old) (sink_of conn.old) conn.old.answered conn.old.reader.held)
-        (moment P.View S.Source K.Sink port.new (source_of conn.new) (sink_of conn.new) conn.new.answered conn.new.reader.held) open) }
+        (moment P.View S.Source K.Sink port.new (source_of conn.new) (sink_of conn.new) conn.new.answered conn.new.reader.held) goes) }
     ensures err { IfErr result (λ end. Served (terms P.alone (C.second clock.old) admin.now)
         (moment P.View S.Source K.Sink port.old (source_of conn.old) (sink_of conn.old) conn.old.answered conn.old.reader.held)
         (moment P.View S.Source K.Sink port.new (source_of conn.new) (sink_of conn.new) conn.new.answered conn.new.reader.held) end) }
@@ -51,12 +58,15 @@ fn serve_one<P: Port, S: Source, K: Sink, C: Clock>(
         kept,
     } = heard;
     conn.answered += 1;
-    let close = last || conn.answered == REQUESTS_MAX;
-    let reply = match call {
-        Ok(call) => respond(alloc, port, at, call, kept, close),
-        Err(NoMemory) => Err(CommitFault::NoMemory),
+    let close = is_last(last, conn.answered);
+    let call = match call {
+        Ok(call) => call,
+        Err(NoMemory) => match write(&mut conn.sink, out_of_memory(close)) {
+            Ok(()) => return Ok(!last),
+            Err(end) => return Err(end),
+        },
     };
-    match reply {
+    match respond(alloc, port, at, call, kept, close) {
         Ok(text) => match write(&mut conn.sink, &text) {
             Ok(()) => Ok(!last),
             Err(end) => Err(end),

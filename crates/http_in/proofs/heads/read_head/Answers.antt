@@ -1,11 +1,11 @@
 use Rattle.std.proofs.Common.{◌≡◌, ◌<◌, ◌≤◌, length, arith, subst, List, ℕ, zero, suc, refl, inl, false}
 use Rattle.std.specs.Prelude.{◌==◌}
 use Rattle.httparse.specs.Grammar.{NeverHasRequest}
-use Rattle.http_in.specs.declared.heads.Step.TheVariants.{Cut, Bad, HeadTooLarge}
+use Rattle.http_in.specs.declared.heads.Step.TheVariants.{Cut, Bad, HeadTooLarge, ReadFault}
 use Rattle.http_in.specs.Heads.{IsOver}
 use Rattle.http_in.specs.Verdicts.{IsWhole, IsUnfinished}
 use Rattle.http_in.proofs.SourceFacts.{fills_more}
-use Rattle.http_in.proofs.HeadFacts.{call_by, taken_call, bad_held, cut_held}
+use Rattle.http_in.proofs.HeadFacts.{call_by, taken_call, bad_held, cut_held, fault_held}
 use Rattle.http_in.proofs.heads.read_head.Goals as goal
 
 some_of : (n : ℕ) → false ≡ (n == 0) → 0 < n
@@ -41,3 +41,12 @@ returns-else-is_empty-clause-step g c =
     let some : 0 < length c.fill.new.self = some_of (length c.fill.new.self) c.if-is_empty.ensures in
     call_by g.S.Source.given g.S.Source.left c.args.source.now c.fill.new.source c.args.held.now c.fill.new.self c.fill.new.self
     Cut fills (cut_held c.reads.held c.fill.new.self unfinished end.1 (omega (arith, some)), refl) end.0
+
+pub returns-in-Fault-clause-step : goal.returns-in-Fault-clause-step
+returns-in-Fault-clause-step g c =
+    let fills = fills_more g.S.Source.given g.S.Source.left c.args.source.now c.reads.source c.fill.new.source c.args.held.now
+    c.reads.held c.fill.new.self c.reads.invariant.fills c.in-Fault.ensures.bytes in
+    let fault = c.in-Fault.ensures.fault refl in
+    let unfinished = subst IsUnfinished c.as_slice.ensures.value c.in-Unfinished.ensures.verdict in
+    call_by g.S.Source.given g.S.Source.left c.args.source.now c.fill.new.source c.args.held.now c.fill.new.self c.fill.new.self
+    ReadFault fills (fault_held c.reads.held c.fill.new.self unfinished fault.1, refl) tt

@@ -1,4 +1,4 @@
-use Rattle.std.proofs.Common.{ℕ, ◌≤◌, [], ◌++◌, List, refl, ◌∙◌, take, arith, option_map}
+use Rattle.std.proofs.Common.{ℕ, [], ◌++◌, List, refl, ◌∙◌, take, arith, option_map}
 use Rattle.http_in.proofs.ReadingFacts.{place_inside, content_none, content_more, read_done, read_cut, read_bad, read_large, read_fault, read_memory, read_none}
 use Rattle.session_http.proofs.Kept.{holds_empty, keeps_more}
 use Rattle.session_http.proofs.bodies.read_body.Goals as goal

@@ -1,4 +1,4 @@
-use Rattle.std.proofs.Common.{◌≡◌, ◌≤◌, ◌<◌, length, option_map}
+use Rattle.std.proofs.Common.{◌≡◌, ◌≤◌, option_map}
 use Rattle.session_http.specs.Bodies.{BodySoFar}
 use Rattle.session_http.proofs.bodies.read_body.Given as goal
 

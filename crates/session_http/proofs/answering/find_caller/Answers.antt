@@ -1,0 +1,22 @@
+use Rattle.std.proofs.Common.{option_map}
+use Rattle.fh_model.specs.History.{state_of}
+use Rattle.session_rules.specs.Decisions.{refused, calls}
+use Rattle.session_rules.specs.Judged.{fault_said}
+use Rattle.session_http.proofs.Callers.{calls_still}
+use Rattle.session_http.proofs.answering.find_caller.Goals as goal
+
+pub returns-in-Refused-clause-calls : goal.returns-in-Refused-clause-calls
+returns-in-Refused-clause-calls g c =
+    let P = g.P.View in
+    let seen = P.seen c.args.port.now in
+    let head = c.args.head.now in
+    calls_still P.alone c.args.admin.now seen head.method.items head.target.items (option_map (λ token. token.items) head.token)
+    (refused (fault_said c.in-Refused.fault)) (c.in-Refused.ensures (state_of seen))
+
+pub returns-in-User-clause-calls : goal.returns-in-User-clause-calls
+returns-in-User-clause-calls g c =
+    let P = g.P.View in
+    let seen = P.seen c.args.port.now in
+    let head = c.args.head.now in
+    calls_still P.alone c.args.admin.now seen head.method.items head.target.items (option_map (λ token. token.items) head.token)
+    (calls c.in-User.route c.in-User.user) (c.in-User.ensures (state_of seen))

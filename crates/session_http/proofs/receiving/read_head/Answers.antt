@@ -1,0 +1,42 @@
+use Rattle.std.proofs.Common.{refl}
+use Rattle.session_rules.specs.Replies.{bad_request, head_too_large}
+use Rattle.session_http.proofs.Receives.{stops_bad, stops_cut, stops_end, stops_large, stops_memory, stops_read}
+use Rattle.session_http.proofs.receiving.read_head.Goals as goal
+
+pub returns-in-End-clause-err : goal.returns-in-End-clause-err
+returns-in-End-clause-err g c =
+    let conn = c.args.conn.now in
+    stops_end g.P.View g.S.Source g.K.Sink (g.C.Clock.second c.args.clock.now) c.args.admin.now conn.answered c.args.port.now conn.source c.next.new.source
+    conn.sink conn.reader.held c.next.new.self.held c.in-End.ensures.step c.in-End.ensures.later
+
+pub returns-in-Cut-clause-err : goal.returns-in-Cut-clause-err
+returns-in-Cut-clause-err g c =
+    let conn = c.args.conn.now in
+    stops_cut g.P.View g.S.Source g.K.Sink (g.C.Clock.second c.args.clock.now) c.args.admin.now conn.answered c.args.port.now conn.source c.next.new.source
+    conn.sink conn.reader.held c.next.new.self.held c.in-Cut.ensures.step c.in-Cut.ensures.later
+
+pub returns-in-Bad-clause-err : goal.returns-in-Bad-clause-err
+returns-in-Bad-clause-err g c =
+    let conn = c.args.conn.now in
+    stops_bad g.P.View g.S.Source g.K.Sink (g.C.Clock.second c.args.clock.now) c.args.admin.now conn.answered c.refuse.result c.args.port.now conn.source c.next.new.source
+    conn.sink c.refuse.new.sink conn.reader.held c.next.new.self.held c.in-Bad.ensures.step c.in-Bad.ensures.later c.refuse.ensures.later
+    (c.refuse.ensures.said bad_request c.bad_request_reply.ensures)
+
+pub returns-in-HeadTooLarge-clause-err : goal.returns-in-HeadTooLarge-clause-err
+returns-in-HeadTooLarge-clause-err g c =
+    let conn = c.args.conn.now in
+    stops_large g.P.View g.S.Source g.K.Sink (g.C.Clock.second c.args.clock.now) c.args.admin.now conn.answered c.refuse-in-HeadTooLarge.result c.args.port.now conn.source c.next.new.source
+    conn.sink c.refuse-in-HeadTooLarge.new.sink conn.reader.held c.next.new.self.held c.in-HeadTooLarge.ensures.step c.in-HeadTooLarge.ensures.later c.refuse-in-HeadTooLarge.ensures.later
+    (c.refuse-in-HeadTooLarge.ensures.said head_too_large c.head_too_large_reply.ensures)
+
+pub returns-in-ReadFault-clause-err : goal.returns-in-ReadFault-clause-err
+returns-in-ReadFault-clause-err g c =
+    let conn = c.args.conn.now in
+    stops_read g.P.View g.S.Source g.K.Sink (g.C.Clock.second c.args.clock.now) c.args.admin.now conn.answered c.args.port.now conn.source c.next.new.source
+    conn.sink conn.reader.held c.next.new.self.held c.in-ReadFault.ensures.step c.in-ReadFault.ensures.later (c.in-ReadFault.ensures.fault refl)
+
+pub returns-in-NoMemory-clause-err : goal.returns-in-NoMemory-clause-err
+returns-in-NoMemory-clause-err g c =
+    let conn = c.args.conn.now in
+    stops_memory g.P.View g.S.Source g.K.Sink (g.C.Clock.second c.args.clock.now) c.args.admin.now conn.answered c.args.port.now conn.source c.next.new.source
+    conn.sink conn.reader.held c.next.new.self.held c.in-NoMemory.ensures.step c.in-NoMemory.ensures.later
