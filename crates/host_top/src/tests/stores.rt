@@ -182,7 +182,7 @@ fn is_first_user(user: &Row) -> bool {
 }
 
 /// What the disk holds, by all rows of the reopened image.
-fn held(alloc: Global, disk: MemDisk) -> Held {
+fn stands(alloc: Global, disk: MemDisk) -> Held {
     let Ok(store) = Store::open(alloc, disk) else {
         return Held::Other;
     };
@@ -217,9 +217,9 @@ fn a_stop_at_any_call_of_the_disk_loses_nothing_acknowledged(rt: HostRuntime) ->
         );
         let disk = fuse.into_inner();
         for choice in 0..32 {
-            let found = held(alloc, disk.crashed(choice)?);
-            let stands = found == Held::After || (found == Held::Before && !acknowledged);
-            assert!(rt; stands, "after {calls} calls, choice {choice}");
+            let found = stands(alloc, disk.crashed(choice)?);
+            let lawful = found == Held::After || (found == Held::Before && !acknowledged);
+            assert!(rt; lawful, "after {calls} calls, choice {choice}");
         }
         assert!(rt; calls < 23 || acknowledged);
     }
