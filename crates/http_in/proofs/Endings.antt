@@ -36,7 +36,7 @@ never_now bytes h r never reads =
 
 over_bad : (bytes : List ℕ) → IsOver bytes → IsBad bytes → IsOpenTarget bytes
 over_bad bytes (inl many) bad = absurd (never_now (judged bytes) many.0 many.1 bad many.2)
-over_bad bytes (inr over) bad = hopeful_never (judged bytes) over.hopeful bad
+over_bad bytes (inr over) bad = (hopeful_never (judged bytes) over.hopeful bad, bad)
 
 over_cut : (bytes : List ℕ) → IsOver bytes → IsCut bytes → ⊥
 over_cut bytes (inl many) cut = cut.unfinished many.0 (many.1 ++ drop 16384 bytes) (judged_head bytes many.0 many.1 many.2)
@@ -61,5 +61,5 @@ one_ending_holds bytes = record {
   over_or_bad = over_bad bytes;
   cut_or_bad = λ cut bad.
       let same : judged bytes ≡ bytes = take_all 16384 bytes (omega (arith, cut.short)) in
-      subst EndsInTarget (sym same) (hopeful_never bytes cut.hopeful (subst NeverHasRequest same bad));
+      (subst EndsInTarget (sym same) (hopeful_never bytes cut.hopeful (subst NeverHasRequest same bad)), bad);
 }

@@ -43,6 +43,6 @@ pub record IsCut (bytes : List ℕ) : Type 0 where
   pub unfinished : HasNoRequest bytes
   pub hopeful : MayBecomeRequest bytes
 
--- the bytes of a head end in a request target whose text is broken, so that httparse may still wait
+-- the bytes end in a request target that no continuation makes one of a head, so that httparse may still wait
 abbrev pub IsOpenTarget : List ℕ → Type 0
-IsOpenTarget bytes = EndsInTarget (judged bytes)
+IsOpenTarget bytes = EndsInTarget (judged bytes) × IsBad bytes

@@ -1,16 +1,32 @@
-ghost use Rattle.std.specs.Prelude.{◌≡◌, ◌<◌, ◌≤◌, length, map, All, option_map};
+ghost use Rattle.std.specs.Prelude.{◌≡◌, ℕ, ◌<◌, ◌≤◌, length, slice_index, map, All, IsTrue, option_map};
 ghost use Rattle.httparse.specs.Spans.{IsHeaderWithin, header_bytes};
 ghost use Rattle.http_in.specs.Fields.{is_same_name};
 ghost use Rattle.http_in.specs.Values.{AreValues, IsNoted, first_of, value_if};
 
 use httparse::spans::HeaderSpan;
 
-/// Whether the names are one, without regard to case. Most are written as they are looked for, and then one
-/// comparison of all bytes tells it.
-pub(crate) fn is_name(a: &[u8], b: &[u8]) -> bool
-    ensures { result ≡ is_same_name a.now b.now }
+/// Whether the names are one, without regard to case. Most are written as they are looked for, which is tested first.
+#[inline(always)]
+pub(crate) fn is_name(name: &[u8], wanted: &[u8]) -> bool
+    ensures { result ≡ is_same_name name.now wanted.now }
 {
-    a == b || a.eq_ignore_ascii_case(b)
+    if name.len() != wanted.len() {
+        return false;
+    }
+    has_bytes(name, wanted) || name.eq_ignore_ascii_case(wanted)
+}
+
+/// Whether the bytes are the same. The loop has no early exit, so that a constant length leaves no loop and no call.
+#[inline(always)]
+fn has_bytes(name: &[u8], wanted: &[u8]) -> bool
+    requires { length name.now ≡ length wanted.now }
+    ensures { IsTrue result → (k : ℕ) → k < length wanted.now → slice_index name.now k ≡ slice_index wanted.now k }
+{
+    let mut same = true;
+    for i in 0..wanted.len() {
+        same &= name[i] == wanted[i];
+    }
+    same
 }
 
 /// What the fields of a head say that is read: of each name the value of the first field.
@@ -43,29 +59,44 @@ fn keep_first<'a>(found: &mut Option<&'a [u8]>, wanted: &[u8], name: &[u8], valu
 }
 
 impl<'a> Values<'a> {
-    /// Notes one more field, behind those that were noted.
+    /// Notes one more field, behind those that were noted. Each name that is looked for has a length of its own, so a
+    /// field's name is compared with one of them at most.
     fn note(&mut self, name: &[u8], value: &'a [u8])
         requires { self.old.lengths < usize.MAX }
         ensures { IsNoted self.old (name.now, value.now) self.new }
     {
-        keep_first(&mut self.length, b"Content-Length".as_slice(), name, value);
-        keep_first(
-            &mut self.coding,
-            b"Transfer-Encoding".as_slice(),
-            name,
-            value,
-        );
-        keep_first(&mut self.expect, b"Expect".as_slice(), name, value);
-        keep_first(&mut self.connection, b"Connection".as_slice(), name, value);
-        keep_first(
-            &mut self.authorization,
-            b"Authorization".as_slice(),
-            name,
-            value,
-        );
-        keep_first(&mut self.arg, b"Dropbox-API-Arg".as_slice(), name, value);
+        match name.len() {
+            6 => keep_first(&mut self.expect, b"Expect".as_slice(), name, value),
+            10 => keep_first(&mut self.connection, b"Connection".as_slice(), name, value),
+            13 => keep_first(
+                &mut self.authorization,
+                b"Authorization".as_slice(),
+                name,
+                value,
+            ),
+            14 => self.note_length(name, value),
+            15 => keep_first(&mut self.arg, b"Dropbox-API-Arg".as_slice(), name, value),
+            17 => keep_first(
+                &mut self.coding,
+                b"Transfer-Encoding".as_slice(),
+                name,
+                value,
+            ),
+            _ => {}
+        }
+    }
+
+    /// Notes one more field whose name is as long as `Content-Length`.
+    fn note_length(&mut self, name: &[u8], value: &'a [u8])
+        requires room { self.old.lengths < usize.MAX }
+        requires long { length name.now ≡ 14 }
+        ensures { IsNoted self.old (name.now, value.now) self.new }
+    {
         if is_name(name, b"Content-Length".as_slice()) {
             self.lengths += 1;
+            if self.length.is_none() {
+                self.length = Some(value);
+            }
         }
     }
 }

@@ -4,6 +4,7 @@ ghost use Rattle.fh_world.specs.Causes.{Rose};
 ghost use Rattle.http_in.specs.Verdicts.{IsVerdict, IsTaken};
 ghost use Rattle.http_in.specs.Steps.{HeadCall, state_after};
 ghost use Rattle.http_in.specs.Stands.{place_of};
+ghost use Rattle.http_in.specs.Parts.{limit_of};
 ghost use Rattle.http_in.specs.PartsRead.{IsPartsRead};
 
 use crate::head::{Head, Length};
@@ -137,20 +138,20 @@ fn copy_head(alloc: Global, held: &[u8], spans: &[HeaderSpan], found: &RequestSp
     )
 }
 
-/// Where a body begins that may have so many bytes.
-fn begin_body(limit: u64, length: Length) -> Place
-    ensures { result ≡ place_of limit length }
+/// Where the body of a request for this target begins. The target is looked at only where there is a body.
+fn begin_body(target: &[u8], length: Length) -> Place
+    ensures { result ≡ place_of (limit_of target.now) length }
 {
     match length {
         Length::Absent => Place::Known(0),
         Length::Known(count) => {
-            if count <= limit {
+            if count <= body_limit(target) {
                 Place::Known(count)
             } else {
                 Place::Over
             }
         }
-        Length::Chunked => Place::Line(limit),
+        Length::Chunked => Place::Line(body_limit(target)),
     }
 }
 
@@ -159,10 +160,7 @@ pub(crate) fn settle(step: &Step) -> State
     ensures { result ≡ state_after step.now }
 {
     match step {
-        Step::Head(head) => State::Inside(begin_body(
-            body_limit(head.target.as_slice()),
-            head.length,
-        )),
+        Step::Head(head) => State::Inside(begin_body(head.target.as_slice(), head.length)),
         Step::NoMemory => State::Between,
         Step::End => State::Ended,
         Step::Cut => State::Ended,

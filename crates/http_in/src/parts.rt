@@ -101,13 +101,14 @@ fn is_said(word: &[u8], value: Option<&[u8]>) -> bool
     }
 }
 
-/// Whether a body comes that states neither no bytes nor more than it may have.
-fn is_awaited(limit: u64, length: Length) -> bool
-    ensures { result ≡ awaits limit length }
+/// Whether a body comes that states neither no bytes nor more than the route takes. The route is looked at only where
+/// a number of bytes is stated.
+fn is_awaited(target: &[u8], length: Length) -> bool
+    ensures { result ≡ awaits (limit_of target.now) length }
 {
     match length {
         Length::Absent => false,
-        Length::Known(number) => number > 0 && number <= limit,
+        Length::Known(number) => number > 0 && number <= body_limit(target),
         Length::Chunked => true,
     }
 }
@@ -176,7 +177,7 @@ pub(crate) fn read_parts(
     };
     let expects = is_said(b"100-continue".as_slice(), values.expect);
     let closes = is_said(b"close".as_slice(), values.connection);
-    let awaited = is_awaited(body_limit(target), length);
+    let awaited = is_awaited(target, length);
     let Ok(method) = Vec::from_slice(alloc, method) else {
         return Parts::NoMemory;
     };

@@ -8,7 +8,7 @@ use crate::bodies::{BodyStep, read_body, settle_body};
 use crate::heads::{SPANS, Step, read_head, settle};
 use crate::held::Held;
 use crate::limits::HEAD_MAX_BYTES;
-use crate::place::State;
+use crate::place::{Place, State};
 use fh_model::NoMemory;
 use fh_world::Source;
 use httparse::spans::{EMPTY_HEADER_SPAN, HeaderSpan};
@@ -82,6 +82,11 @@ impl Reader {
         let State::Inside(mut place) = self.state else {
             unreachable!();
         };
+        // Most requests have no body.
+        if let Place::Known(0) = place {
+            self.state = State::Between;
+            return BodyStep::Done;
+        }
         let step = read_body(&mut self.held, &mut self.spans, &mut place, source, buf);
         self.state = settle_body(step, place);
         step

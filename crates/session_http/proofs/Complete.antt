@@ -1,12 +1,14 @@
 -- Where no fault rose, the end of a connection is the one that its input spells, or memory was wanting. Bytes that end in a
 -- request target whose text is broken may be cut or bad.
-use Rattle.std.proofs.Common.{◌≡◌, ℕ, ◌+◌, ◌≤◌, ◌<◌, List, [], ◌∷◌, ◌++◌, length, if◌then◌else◌, Option, None, Some, refl, sym, ◌∙◌, ap, subst, append-nil, arith, inl, inr, ◌⊎◌, Bool, true, false}
+use Rattle.std.proofs.Common.{◌≡◌, ℕ, ◌+◌, ◌≤◌, ◌<◌, List, [], ◌∷◌, ◌++◌, length, if◌then◌else◌, Option, None, Some, refl, sym, ◌∙◌, ap, subst, append-nil, arith, length-append, inl, inr, ◌⊎◌, Bool, true, false}
+use Rattle.std.proofs.lemmas.List.{length-take}
 use Rattle.std.proofs.lemmas.List.Elements.{All-head, All-tail}
 use Rattle.std.specs.Io.KnownBytes.{IsAtEnd, prepend_known}
 use Rattle.fh_world.specs.Causes.{Rose}
+use Rattle.httparse.specs.Grammar.{EndsInTarget, print_blank}
 use Rattle.fh_model.specs.declared.commands.Cmd.{Cmd}
 use Rattle.http_in.specs.Framing.{IsMisframed}
-use Rattle.http_in.specs.Heads.{IsBad, IsOpenTarget}
+use Rattle.http_in.specs.Heads.{judged, IsBad, IsOpenTarget}
 use Rattle.http_in.specs.Requests.{Request, Requests, none, more, Final, at_end, is_cut, is_bad, is_over, EndsAs}
 use Rattle.http_in.proofs.MoreBytes.{ends_more}
 use Rattle.http_in.specs.Unique.{IsSettled}
@@ -129,13 +131,13 @@ settled_more rest l e settled ends = ends_more rest l e settled ends
 module _ (t : Terms) (before now : Moment) (ending : ConnEnd) (turns : List Turn) (rest l : List ℕ) (s : Spells before.left ending)
     (b : Sent (rest ++ l) (requests turns) s.sent s.rest s.final) where
   -- all that was sent is read
-  by_final : (e : Final) → GoOn turns → EndsAs (rest ++ l) e → (end_of e ≡ ending) ⊎ IsOpenTarget s.rest
+  by_final : (e : Final) → GoOn turns → EndsAs (rest ++ l) e → (end_of e ≡ ending) ⊎ (IsOpenTarget s.rest × IsOpenTarget (rest ++ l))
   by_final e going ends = settle one.2 where
     one : ([] ≡ b.later) × ((rest ++ l) ≡ s.rest) × ((e ≡ s.final) ⊎ IsOpenTarget (rest ++ l))
     one = one_reading_holds (rest ++ l) [] b.later (rest ++ l) s.rest e s.final (none (rest ++ l) e ends) b.splits
 
-    settle : ((e ≡ s.final) ⊎ IsOpenTarget (rest ++ l)) → (end_of e ≡ ending) ⊎ IsOpenTarget s.rest
-    settle (inr apart) = inr (subst IsOpenTarget one.1 apart)
+    settle : ((e ≡ s.final) ⊎ IsOpenTarget (rest ++ l)) → (end_of e ≡ ending) ⊎ (IsOpenTarget s.rest × IsOpenTarget (rest ++ l))
+    settle (inr apart) = inr (subst IsOpenTarget one.1 apart, apart)
     settle (inl same) =
         inl (ap end_of same ∙ ap (λ (rs : List Request). ending_of rs s.final) one.0 ∙ sym (ending_goes turns b.later s.final going)
         ∙ ap (λ (rs : List Request). ending_of rs s.final) (sym b.all) ∙ sym s.ends)
@@ -151,6 +153,15 @@ module _ (t : Terms) (before now : Moment) (ending : ConnEnd) (turns : List Turn
   too_few (inr last) full = omega (arith, heeded_last turns b.later last, full, few) where
     few : length (heeded (requests turns ++ b.later)) < 1000000
     few = subst (λ rs. length (heeded rs) < 1000000) b.all s.few
+
+-- no bytes end in a target
+some_target : (bytes : List ℕ) → length bytes ≤ 0 → EndsInTarget bytes → ⊥
+some_target bytes few h = omega (arith, few, ap length h.5, length-append (print_blank h.0 ++ h.1) (32 ∷ h.2))
+
+nothing_open : (bytes : List ℕ) → bytes ≡ [] → IsOpenTarget bytes → ⊥
+nothing_open bytes empty h = some_target (judged bytes) few h.0 where
+  few : length (judged bytes) ≤ 0
+  few = rw empty (omega (arith, length-take {A = ℕ}))
 
 not_cut : ((Cut ≡ Ended) ⊎ (Cut ≡ Spent)) → ⊥
 not_cut (inl e) = cc
@@ -170,12 +181,17 @@ module _ (t : Terms) (before now : Moment) (ending : ConnEnd) (new : before.unre
       let all = sent_behind s.bytes (h.rest ++ f.0) s.rest (requests (h.answered ++ h.broken)) s.sent s.final f.2 s.splits in
       (f.0, f.1, subst P (ap (λ (b : List Turn). h.answered ++ b) whole ∙ append-nil h.answered) all)
 
+  -- it is the end that was spelled, or memory was wanting; inside a target that may have no text, cut or bad
   abbrev pub Found : ConnEnd → Type 0
-  Found end = (end ≡ ending) ⊎ ((end ≡ NoMemory) ⊎ IsOpenTarget s.rest)
+  Found end = (end ≡ ending) ⊎ ((end ≡ NoMemory) ⊎ (IsOpenTarget s.rest × ((end ≡ Cut) ⊎ (end ≡ Bad))))
 
-  found : (end : ConnEnd) → ((end ≡ ending) ⊎ IsOpenTarget s.rest) → Found end
-  found end (inl e) = inl e
-  found end (inr o) = inr (inr o)
+  found : (end : ConnEnd) (bytes : List ℕ) → (end ≡ Cut) ⊎ (end ≡ Bad) → ((end ≡ ending) ⊎ (IsOpenTarget s.rest × IsOpenTarget bytes)) → Found end
+  found end bytes apart (inl e) = inl e
+  found end bytes apart (inr o) = inr (inr (o.0, apart))
+
+  all_read : (bytes : List ℕ) → bytes ≡ [] → ((Ended ≡ ending) ⊎ (IsOpenTarget s.rest × IsOpenTarget bytes)) → Found Ended
+  all_read bytes nil (inl e) = inl e
+  all_read bytes nil (inr o) = absurd (nothing_open bytes nil o.1)
 
   ended : Served t before now Ended → Found Ended
   ended h = by h.ends.3 h.going where
@@ -185,7 +201,7 @@ module _ (t : Terms) (before now : Moment) (ending : ConnEnd) (new : before.unre
     by (inl over) (inl going) =
         let f = sent_for Ended h h.ends.0 in
         let nil : h.rest ++ f.0 ≡ [] = ap (λ (r : List ℕ). r ++ f.0) over.0 ∙ at_end_nil now.left f.0 f.1 over.1 in
-        found Ended (by_final t before now ending h.answered h.rest f.0 s f.2 at_end going nil)
+        all_read (h.rest ++ f.0) nil (by_final t before now ending h.answered h.rest f.0 s f.2 at_end going nil)
 
   cut_short : Served t before now Cut → Found Cut
   cut_short h = by h.going where
@@ -196,7 +212,7 @@ module _ (t : Terms) (before now : Moment) (ending : ConnEnd) (new : before.unre
         let P : List ℕ → Type 0 = λ b. EndsAs b is_cut in
         let nil = at_end_nil now.left f.0 f.1 h.ends.2 in
         let same : h.rest ≡ h.rest ++ f.0 = sym (append-nil h.rest) ∙ ap (λ (l : List ℕ). h.rest ++ l) (sym nil) in
-        found Cut (by_final t before now ending h.answered h.rest f.0 s f.2 is_cut going (subst P same (cut_ends h.rest h.part h.ends.1)))
+        found Cut (h.rest ++ f.0) (inl refl) (by_final t before now ending h.answered h.rest f.0 s f.2 is_cut going (subst P same (cut_ends h.rest h.part h.ends.1)))
 
   bad_bytes : Served t before now Bad → Found Bad
   bad_bytes h = by h.going (refused_ends h.rest h.ends.1.0 h.ends.1.1 h.ends.1.2) where
@@ -204,10 +220,10 @@ module _ (t : Terms) (before now : Moment) (ending : ConnEnd) (new : before.unre
     by (inr last) bad = absurd (not_bad last.1)
     by (inl going) (inl bad) =
         let f = sent_for Bad h h.ends.0 in
-        found Bad (by_final t before now ending h.answered h.rest f.0 s f.2 is_bad going (settled_more h.rest f.0 is_bad tt bad))
+        found Bad (h.rest ++ f.0) (inr refl) (by_final t before now ending h.answered h.rest f.0 s f.2 is_bad going (settled_more h.rest f.0 is_bad tt bad))
     by (inl going) (inr over) =
         let f = sent_for Bad h h.ends.0 in
-        found Bad (by_final t before now ending h.answered h.rest f.0 s f.2 is_over going (settled_more h.rest f.0 is_over tt over))
+        found Bad (h.rest ++ f.0) (inr refl) (by_final t before now ending h.answered h.rest f.0 s f.2 is_over going (settled_more h.rest f.0 is_over tt over))
 
   full_of : (n a : ℕ) → n ≡ 0 → n + a ≡ 1000000 → a ≡ 1000000
   full_of n a e f = omega (arith, e, f)
