@@ -1,6 +1,6 @@
 -- How a run of `pipe` and its status follow from the opening of the store and from the connection.
-use Rattle.std.proofs.Common.{◌≡◌, ◌≢◌, ◌⊎◌, ⊎_elim, ℕ, ◌<◌, ◌≤◌, List, [], Option, None, Some, ◌∙◌, ap, append-nil, sym, refl, subst, inl, inr, arith, true, IsTrue}
-use Rattle.fh_world.specs.Bytes.{Moves, Holds}
+use Rattle.std.proofs.Common.{◌≡◌, ◌⊎◌, ℕ, ◌<◌, ◌≤◌, List, [], Option, None, Some, ◌∙◌, ap, append-nil, sym, refl, subst, inl, inr, arith, true, IsTrue}
+use Rattle.fh_world.specs.Bytes.{Moves}
 use Rattle.fh_world.specs.Causes.{Rose}
 use Rattle.fh_world.specs.Disk.{Files, LeavesOnly}
 use Rattle.fh_world.specs.declared.Disk as disk
@@ -11,7 +11,7 @@ use Rattle.fh_world.proofs.Moments.{started, joined, weaker}
 use Rattle.fh_model.specs.declared.commands.Cmd.{Cmd}
 use Rattle.fh_model.specs.History.{Kept, Follows, with_more}
 use Rattle.fh_model.specs.State.{State, opening}
-use Rattle.host_seat.specs.Direct.{Between, Ran, waiting_in}
+use Rattle.host_seat.specs.Direct.{Between, Ran}
 use Rattle.host_seat.specs.RunLaws.{follows_same, follows_more, follows_waiting}
 use Rattle.http_in.specs.Heads.{IsOpenTarget}
 use Rattle.session_rules.specs.Connection.{Turn}
@@ -25,7 +25,7 @@ use Rattle.session_http.proofs.Serves.{serve_none}
 use Rattle.session_http.proofs.Talks.{known_none, known_nothing, rose_since}
 use Rattle.store_core.specs.Files.{Contents, New, NotAStore, Damaged, Stored, contents, Stands, StandsOrNew, KeepsMeaning}
 use Rattle.store_core.specs.Open.{IsSaid, LeavesMeaning}
-use Rattle.store_core.specs.Store.{Opened, IsKept, StandsFor, with_waiting, finished}
+use Rattle.store_core.specs.Store.{Opened, IsKept, with_waiting, finished}
 use Rattle.store_core.specs.declared.faults.StoreFault.{StoreFault}
 use Rattle.store_core.specs.declared.faults.StoreFault.TheVariants as fault
 use Rattle.host_top.specs.Pipe.{PipeServed, PipeRefused, PipeRan, StoreServed, TellsContents, LeavesPrefix, EndsSo, opened, alone_with, refused_as}
