@@ -2,7 +2,7 @@
 """Kills `filehost pipe` in the middle of a stream of requests, again and again, each time over a store of its own.
 
 After each kill the program is started again on the same folder, and every folder that was answered 200 before must
-be there: making it once more must be refused. Needs the program, as `rt ci` leaves it. Outside the gate.
+be there: `get_metadata` must show it. Needs the program, as `rt ci` leaves it. Outside the gate.
 
 Usage: tests/kill.py [ROUNDS]       (default: 100)
 """
@@ -21,10 +21,16 @@ NAMES = 2000  # requests of a round
 MOST_SECONDS = 0.05  # from the first reply of a round to its kill
 
 
-def request(name):
+def request(route, name):
     body = '{"path":"/%s"}' % name
-    head = "POST /2/files/create_folder_v2 HTTP/1.1\r\nAuthorization: Bearer %s\r\nContent-Length: %d\r\n\r\n"
-    return (head % (TOKEN, len(body)) + body).encode()
+    lines = [
+        "POST /2/files/%s HTTP/1.1" % route,
+        "Host: localhost:8080",
+        "Authorization: Bearer %s" % TOKEN,
+        "Content-Type: application/json",
+        "Content-Length: %d" % len(body),
+    ]
+    return ("\r\n".join(lines) + "\r\n\r\n" + body).encode()
 
 
 def start(store):
@@ -51,7 +57,7 @@ def feed(program, names):
     """Sends the requests until the program is gone."""
     try:
         for name in names:
-            program.stdin.write(request(name))
+            program.stdin.write(request("create_folder_v2", name))
             program.stdin.flush()
         program.stdin.close()
     except OSError:
@@ -75,12 +81,15 @@ def killed_round(store, number):
 
 
 def missing(store, names):
-    """Which of the names can be made, so were not there."""
+    """Which of the names are not there."""
     program = start(store)
-    output, errors = program.communicate(b"".join(request(name) for name in names))
+    output, errors = program.communicate(b"".join(request("get_metadata", name) for name in names))
     if program.returncode != 0:
         sys.exit("the store was not opened: status %d, %s" % (program.returncode, errors.decode()))
-    return [name for name, status in zip(names, statuses(output)) if status != 409]
+    found = statuses(output)
+    if len(found) != len(names):
+        sys.exit("%d replies to %d requests" % (len(found), len(names)))
+    return [name for name, status in zip(names, found) if status != 200]
 
 
 def main():

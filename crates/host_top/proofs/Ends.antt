@@ -1,6 +1,6 @@
 -- How a run of `pipe` and its status follow from the opening of the store and from the connection.
-use Rattle.std.proofs.Common.{◌≡◌, ◌≢◌, ◌⊎◌, ⊎_elim, ℕ, ◌<◌, ◌≤◌, List, [], Option, None, Some, ◌∙◌, ap, sym, refl, subst, inl, inr, arith, true, IsTrue}
-use Rattle.fh_world.specs.Bytes.{Moves, Holds}
+use Rattle.std.proofs.Common.{◌≡◌, ◌⊎◌, ℕ, ◌<◌, ◌≤◌, List, [], Option, None, Some, ◌∙◌, ap, append-nil, sym, refl, subst, inl, inr, arith, true, IsTrue}
+use Rattle.fh_world.specs.Bytes.{Moves}
 use Rattle.fh_world.specs.Causes.{Rose}
 use Rattle.fh_world.specs.Disk.{Files, LeavesOnly}
 use Rattle.fh_world.specs.declared.Disk as disk
@@ -9,40 +9,57 @@ use Rattle.fh_world.specs.declared.source.Source as source
 use Rattle.fh_world.specs.declared.sink.Sink as sink
 use Rattle.fh_world.proofs.Moments.{started, joined, weaker}
 use Rattle.fh_model.specs.declared.commands.Cmd.{Cmd}
-use Rattle.fh_model.specs.History.{Kept, Follows}
+use Rattle.fh_model.specs.History.{Kept, Follows, with_more}
 use Rattle.fh_model.specs.State.{State, opening}
-use Rattle.host_seat.specs.Direct.{Between, Ran, waiting_in}
+use Rattle.host_seat.specs.Direct.{Between, Ran}
 use Rattle.host_seat.specs.RunLaws.{follows_same, follows_more, follows_waiting}
+use Rattle.http_in.specs.Heads.{IsOpenTarget}
+use Rattle.session_rules.specs.Connection.{Turn}
+use Rattle.session_http.specs.Ends.{EndsBy, IsStopped, Served}
 use Rattle.session_http.specs.Spell.{Spells}
-use Rattle.session_http.specs.Talk.{Terms, Moment, Served, EndsBy, terms}
+use Rattle.session_http.specs.Talk.{Terms, Moment, terms}
 use Rattle.session_http.specs.declared.conn.ConnEnd.{ConnEnd}
 use Rattle.session_http.specs.declared.conn.ConnEnd.TheVariants as end
 use Rattle.session_http.proofs.Complete.{complete}
-use Rattle.session_http.proofs.Serves.{serve_nothing}
-use Rattle.session_http.proofs.Talks.{known_none, moves_none, rose_since}
+use Rattle.session_http.proofs.Serves.{serve_none}
+use Rattle.session_http.proofs.Talks.{known_none, known_nothing, rose_since}
 use Rattle.store_core.specs.Files.{Contents, New, NotAStore, Damaged, Stored, contents, Stands, StandsOrNew, KeepsMeaning}
 use Rattle.store_core.specs.Open.{IsSaid, LeavesMeaning}
-use Rattle.store_core.specs.Store.{Opened, IsKept, StandsFor, with_waiting, finished}
+use Rattle.store_core.specs.Store.{Opened, IsKept, with_waiting, finished}
 use Rattle.store_core.specs.declared.faults.StoreFault.{StoreFault}
 use Rattle.store_core.specs.declared.faults.StoreFault.TheVariants as fault
-use Rattle.host_top.specs.Pipe.{PipeServed, PipeRefused, PipeRan, StoreServed, TellsContents, LeavesPrefix, opened, alone_with, refused_as}
+use Rattle.host_top.specs.Pipe.{PipeServed, PipeRefused, PipeRan, StoreServed, TellsContents, LeavesPrefix, EndsSo, opened, alone_with, refused_as}
 use Rattle.host_top.specs.Status.{status_of, refusal_of}
 use Rattle.host_top.specs.declared.status.Status.{Status}
 use Rattle.host_top.specs.declared.status.Status.TheVariants as status
 
 -- ---- a connection told from an earlier count of the port's faults
 
-ends_earlier : (e : ConnEnd) (t : Terms) (before now : Moment) (faults : ℕ) → faults ≤ before.port_faults → (answered broken : List _) (rest part : List ℕ)
-    → EndsBy e t before now answered broken rest part → EndsBy e t (record before { port_faults = faults }) now answered broken rest part
-ends_earlier end.DiskFault t before now faults le answered broken rest part h =
-    (h.0, h.1, rose_since faults before.port_faults now.port_faults le h.2, h.3, h.4, h.5, h.6, h.7, h.8, h.9)
-ends_earlier end.Ended t before now faults le answered broken rest part h = h
-ends_earlier end.Cut t before now faults le answered broken rest part h = h
-ends_earlier end.Bad t before now faults le answered broken rest part h = h
-ends_earlier end.ReadFault t before now faults le answered broken rest part h = h
-ends_earlier end.WriteFault t before now faults le answered broken rest part h = h
-ends_earlier end.NoMemory t before now faults le answered broken rest part h = h
-ends_earlier end.Spent t before now faults le answered broken rest part h = h
+stopped_earlier : (t : Terms) (before now : Moment) (faults : ℕ) (answered : List Turn) (behind : List Cmd) (rest part : List ℕ)
+    → IsStopped t before now answered behind rest part → IsStopped t (record before { port_faults = faults }) now answered behind rest part
+stopped_earlier t before now faults answered behind rest part h = record {
+  turn = h.turn;
+  act = h.act;
+  after = h.after;
+  begins = h.begins;
+  is = h.is;
+  entered = h.entered;
+  wanted = h.wanted;
+  wrote = h.wrote;
+  left = h.left;
+}
+
+ends_earlier : (e : ConnEnd) (t : Terms) (before now : Moment) (faults : ℕ) → faults ≤ before.port_faults → (answered broken : List Turn) (behind : List Cmd) (rest part : List ℕ)
+    → EndsBy e t before now answered broken behind rest part → EndsBy e t (record before { port_faults = faults }) now answered broken behind rest part
+ends_earlier end.DiskFault t before now faults le answered broken behind rest part h =
+    (h.0, stopped_earlier t before now faults answered behind rest part h.1, rose_since faults before.port_faults now.port_faults le h.2)
+ends_earlier end.Ended t before now faults le answered broken behind rest part h = h
+ends_earlier end.Cut t before now faults le answered broken behind rest part h = h
+ends_earlier end.Bad t before now faults le answered broken behind rest part h = h
+ends_earlier end.ReadFault t before now faults le answered broken behind rest part h = h
+ends_earlier end.WriteFault t before now faults le answered broken behind rest part h = h
+ends_earlier end.NoMemory t before now faults le answered broken behind rest part h = h
+ends_earlier end.Spent t before now faults le answered broken behind rest part h = h
 
 served_earlier : (e : ConnEnd) (t : Terms) (before now : Moment) (faults : ℕ) → faults ≤ before.port_faults → Served t before now e
     → Served t (record before { port_faults = faults }) now e
@@ -52,13 +69,22 @@ served_earlier e t before now faults le h = record {
   behind = h.behind;
   rest = h.rest;
   part = h.part;
-  talk = record { gave = h.talk.gave; took = h.talk.took; wrote = h.talk.wrote; history = h.talk.history; number = h.talk.number; each = h.talk.each };
+  talk = record {
+    bytes = h.talk.bytes;
+    begins = h.talk.begins;
+    gave = h.talk.gave;
+    took = h.talk.took;
+    wrote = h.talk.wrote;
+    history = h.talk.history;
+    number = h.talk.number;
+    each = h.talk.each;
+  };
   one = h.one;
   few = h.few;
-  still = h.still;
+  going = h.going;
   mine = h.mine;
   waits = h.waits;
-  ends = ends_earlier e t before now faults le h.answered h.broken h.rest h.part h.ends;
+  ends = ends_earlier e t before now faults le h.answered h.broken h.behind h.rest h.part h.ends;
 }
 
 -- ---- what a crash leaves between the opening and the end
@@ -96,15 +122,17 @@ module _ {D S K : Type 0} (of_disk : disk.Ghosts D) (of_source : source.Ghosts S
       let last : Kept = with_waiting new.image new.waiting in
       let from_start : Follows last (opened start) =
       subst (λ (k : Kept). Follows last k) is (follows_more old.image new.image last served.ran.follows (follows_waiting new.image new.waiting)) in
-      let before : Moment = alone_with of_source of_sink (opened start) None (of_disk.faults old.disk) s k in
-      let now : Moment = alone_with of_source of_sink new.image new.waiting (of_disk.faults new.disk) t l in
+      let before : Moment = alone_with of_source of_sink (opened start) None (of_disk.faults old.disk) s k 0 [] in
+      let now : Moment = alone_with of_source of_sink new.image new.waiting (of_disk.faults new.disk) t l served.count served.unread in
       let from_opened : Served (terms true second admin) before now served.end =
-      subst (λ (k0 : Kept). Served (terms true second admin) (alone_with of_source of_sink k0 None (of_disk.faults old.disk) s k) now served.end) is
-      (subst (λ (w : Option Cmd). Served (terms true second admin) (alone_with of_source of_sink old.image w (of_disk.faults old.disk) s k) now served.end) fresh.1 served.served) in
+      subst (λ (k0 : Kept). Served (terms true second admin) (alone_with of_source of_sink k0 None (of_disk.faults old.disk) s k 0 []) now served.end) is
+      (subst (λ (w : Option Cmd). Served (terms true second admin) (alone_with of_source of_sink old.image w (of_disk.faults old.disk) s k 0 []) now served.end) fresh.1 served.served) in
       record {
         start = start;
         kept = new.image;
         waiting = new.waiting;
+        count = served.count;
+        unread = served.unread;
         end = served.end;
         is = served.is;
         from = from;
@@ -122,17 +150,17 @@ module _ {D S K : Type 0} (of_disk : disk.Ghosts D) (of_source : source.Ghosts S
   -- ---- what the status tells
 
   module _ (disk_new : D) where
-    disk_case : (e : ConnEnd) (kept : Kept) (waiting : Option Cmd) (start : State) → result ≡ status_of e → result ≡ status.DiskFault
-        → Served (terms true second admin) (alone_with of_source of_sink (opened start) None (of_disk.faults disk_old) s k) (alone_with of_source of_sink kept waiting (of_disk.faults disk_new) t l) e
+    disk_case : (e : ConnEnd) (kept : Kept) (waiting : Option Cmd) (start : State) (count : ℕ) (unread : List ℕ) → result ≡ status_of e → result ≡ status.DiskFault
+        → Served (terms true second admin) (alone_with of_source of_sink (opened start) None (of_disk.faults disk_old) s k 0 []) (alone_with of_source of_sink kept waiting (of_disk.faults disk_new) t l count unread) e
         → Rose (of_disk.faults disk_old) (of_disk.faults disk_new)
-    disk_case end.DiskFault kept waiting start is h served = served.ends.2
-    disk_case end.ReadFault kept waiting start is h served = cc
-    disk_case end.Ended kept waiting start is h served = cc
-    disk_case end.Cut kept waiting start is h served = cc
-    disk_case end.Bad kept waiting start is h served = cc
-    disk_case end.WriteFault kept waiting start is h served = cc
-    disk_case end.NoMemory kept waiting start is h served = cc
-    disk_case end.Spent kept waiting start is h served = cc
+    disk_case end.DiskFault kept waiting start count unread is h served = served.ends.2
+    disk_case end.ReadFault kept waiting start count unread is h served = cc
+    disk_case end.Ended kept waiting start count unread is h served = cc
+    disk_case end.Cut kept waiting start count unread is h served = cc
+    disk_case end.Bad kept waiting start count unread is h served = cc
+    disk_case end.WriteFault kept waiting start count unread is h served = cc
+    disk_case end.NoMemory kept waiting start count unread is h served = cc
+    disk_case end.Spent kept waiting start count unread is h served = cc
 
     disk_refused : (f : StoreFault) → result ≡ refusal_of f → result ≡ status.DiskFault → f ≡ fault.Disk
     disk_refused fault.Disk is h = refl
@@ -141,20 +169,20 @@ module _ {D S K : Type 0} (of_disk : disk.Ghosts D) (of_source : source.Ghosts S
     disk_refused fault.NoMemory is h = cc
 
     pub pipe_disk : PipeRan of_disk of_source of_sink second admin disk_old disk_new s t k l result → result ≡ status.DiskFault → Rose (of_disk.faults disk_old) (of_disk.faults disk_new)
-    pipe_disk (inl h) e = disk_case h.end h.kept h.waiting h.start h.is e h.served
+    pipe_disk (inl h) e = disk_case h.end h.kept h.waiting h.start h.count h.unread h.is e h.served
     pipe_disk (inr h) e = h.rose (disk_refused h.fault h.is e)
 
-    read_case : (e : ConnEnd) (kept : Kept) (waiting : Option Cmd) (start : State) → result ≡ status_of e → result ≡ status.ReadFault
-        → Served (terms true second admin) (alone_with of_source of_sink (opened start) None (of_disk.faults disk_old) s k) (alone_with of_source of_sink kept waiting (of_disk.faults disk_new) t l) e
+    read_case : (e : ConnEnd) (kept : Kept) (waiting : Option Cmd) (start : State) (count : ℕ) (unread : List ℕ) → result ≡ status_of e → result ≡ status.ReadFault
+        → Served (terms true second admin) (alone_with of_source of_sink (opened start) None (of_disk.faults disk_old) s k 0 []) (alone_with of_source of_sink kept waiting (of_disk.faults disk_new) t l count unread) e
         → Rose (of_source.faults s) (of_source.faults t)
-    read_case end.ReadFault kept waiting start is h served = served.ends.2
-    read_case end.Ended kept waiting start is h served = cc
-    read_case end.Cut kept waiting start is h served = cc
-    read_case end.Bad kept waiting start is h served = cc
-    read_case end.WriteFault kept waiting start is h served = cc
-    read_case end.DiskFault kept waiting start is h served = cc
-    read_case end.NoMemory kept waiting start is h served = cc
-    read_case end.Spent kept waiting start is h served = cc
+    read_case end.ReadFault kept waiting start count unread is h served = served.ends.2
+    read_case end.Ended kept waiting start count unread is h served = cc
+    read_case end.Cut kept waiting start count unread is h served = cc
+    read_case end.Bad kept waiting start count unread is h served = cc
+    read_case end.WriteFault kept waiting start count unread is h served = cc
+    read_case end.DiskFault kept waiting start count unread is h served = cc
+    read_case end.NoMemory kept waiting start count unread is h served = cc
+    read_case end.Spent kept waiting start count unread is h served = cc
 
     -- no refusal of a store is a fault of the ends
     refused_ends : (f : StoreFault) (other : Status) → (other ≡ status.ReadFault) ⊎ (other ≡ status.WriteFault) → refusal_of f ≡ other → ⊥
@@ -168,30 +196,35 @@ module _ {D S K : Type 0} (of_disk : disk.Ghosts D) (of_source : source.Ghosts S
     refused_ends fault.NoMemory other (inr h) e = cc
 
     pub pipe_read : PipeRan of_disk of_source of_sink second admin disk_old disk_new s t k l result → result ≡ status.ReadFault → Rose (of_source.faults s) (of_source.faults t)
-    pipe_read (inl h) e = read_case h.end h.kept h.waiting h.start h.is e h.served
+    pipe_read (inl h) e = read_case h.end h.kept h.waiting h.start h.count h.unread h.is e h.served
     pipe_read (inr h) e = absurd (refused_ends h.fault status.ReadFault (inl refl) (sym h.is ∙ e))
 
-    write_case : (e : ConnEnd) (kept : Kept) (waiting : Option Cmd) (start : State) → result ≡ status_of e → result ≡ status.WriteFault
-        → Served (terms true second admin) (alone_with of_source of_sink (opened start) None (of_disk.faults disk_old) s k) (alone_with of_source of_sink kept waiting (of_disk.faults disk_new) t l) e
+    write_case : (e : ConnEnd) (kept : Kept) (waiting : Option Cmd) (start : State) (count : ℕ) (unread : List ℕ) → result ≡ status_of e → result ≡ status.WriteFault
+        → Served (terms true second admin) (alone_with of_source of_sink (opened start) None (of_disk.faults disk_old) s k 0 []) (alone_with of_source of_sink kept waiting (of_disk.faults disk_new) t l count unread) e
         → Rose (of_sink.faults k) (of_sink.faults l)
-    write_case end.WriteFault kept waiting start is h served = served.ends.1
-    write_case end.Ended kept waiting start is h served = cc
-    write_case end.Cut kept waiting start is h served = cc
-    write_case end.Bad kept waiting start is h served = cc
-    write_case end.ReadFault kept waiting start is h served = cc
-    write_case end.DiskFault kept waiting start is h served = cc
-    write_case end.NoMemory kept waiting start is h served = cc
-    write_case end.Spent kept waiting start is h served = cc
+    write_case end.WriteFault kept waiting start count unread is h served = served.ends.3
+    write_case end.Ended kept waiting start count unread is h served = cc
+    write_case end.Cut kept waiting start count unread is h served = cc
+    write_case end.Bad kept waiting start count unread is h served = cc
+    write_case end.ReadFault kept waiting start count unread is h served = cc
+    write_case end.DiskFault kept waiting start count unread is h served = cc
+    write_case end.NoMemory kept waiting start count unread is h served = cc
+    write_case end.Spent kept waiting start count unread is h served = cc
 
     pub pipe_write : PipeRan of_disk of_source of_sink second admin disk_old disk_new s t k l result → result ≡ status.WriteFault → Rose (of_sink.faults k) (of_sink.faults l)
-    pipe_write (inl h) e = write_case h.end h.kept h.waiting h.start h.is e h.served
+    pipe_write (inl h) e = write_case h.end h.kept h.waiting h.start h.count h.unread h.is e h.served
     pipe_write (inr h) e = absurd (refused_ends h.fault status.WriteFault (inr refl) (sym h.is ∙ e))
 
     -- ---- completeness
 
-    status_cases : (e ending : ConnEnd) → result ≡ status_of e → (e ≡ ending) ⊎ (e ≡ end.NoMemory) → (result ≡ status_of ending) ⊎ (result ≡ status.NoMemory)
-    status_cases e ending is (inl h) = inl (is ∙ ap status_of h)
-    status_cases e ending is (inr h) = inr (is ∙ ap status_of h)
+    status_cases : (e ending : ConnEnd) (rest : List ℕ) → result ≡ status_of e
+        → (e ≡ ending) ⊎ ((e ≡ end.NoMemory) ⊎ (IsOpenTarget rest × ((e ≡ end.Cut) ⊎ (e ≡ end.Bad)))) → EndsSo result ending rest
+    status_cases e ending rest is (inl h) = inl (is ∙ ap status_of h)
+    status_cases e ending rest is (inr (inl h)) = inr (inl (is ∙ ap status_of h))
+    status_cases e ending rest is (inr (inr h)) = inr (inr (h.0, by h.1)) where
+      by : ((e ≡ end.Cut) ⊎ (e ≡ end.Bad)) → (result ≡ status.Cut) ⊎ (result ≡ status.Bad)
+      by (inl cut) = inl (is ∙ ap status_of cut)
+      by (inr bad) = inr (is ∙ ap status_of bad)
 
     -- a store that can be opened isn't refused for its contents
     readable : (f : StoreFault) (found : Contents) (start : State) (stands : (found ≡ New) ⊎ ((st : State) × (cmds : List Cmd) × (found ≡ Stored st cmds))) → IsSaid found f → result ≡ refusal_of f
@@ -207,13 +240,13 @@ module _ {D S K : Type 0} (of_disk : disk.Ghosts D) (of_source : source.Ghosts S
     stored_or_new seen start (inl stands) = inr (stands.start, stands.commands, stands.stored)
     stored_or_new seen start (inr new) = inl new.0
 
-    pub pipe_complete : (names : List (List ℕ)) (ending : ConnEnd) (start : State) → PipeRan of_disk of_source of_sink second admin disk_old disk_new s t k l result
-        → IsTrue of_disk.tells → StandsOrNew (of_disk.seen disk_old) start → Spells (of_source.left s) admin names ending
+    pub pipe_complete : (ending : ConnEnd) (start : State) → PipeRan of_disk of_source of_sink second admin disk_old disk_new s t k l result
+        → IsTrue of_disk.tells → StandsOrNew (of_disk.seen disk_old) start → (sent : Spells (of_source.left s) ending)
         → (Rose (of_source.faults s) (of_source.faults t) → ⊥) → (Rose (of_sink.faults k) (of_sink.faults l) → ⊥) → (Rose (of_disk.faults disk_old) (of_disk.faults disk_new) → ⊥)
-        → (result ≡ status_of ending) ⊎ (result ≡ status.NoMemory)
-    pipe_complete names ending start (inl h) told stands spells r w d = status_cases h.end ending h.is (complete h.end _ _ _ names ending h.served spells r w d)
-    pipe_complete names ending start (inr h) told stands spells r w d =
-        inr (readable h.fault (contents (of_disk.seen disk_old)) start (stored_or_new (of_disk.seen disk_old) start stands) (h.said told) h.is (λ e. d (h.rose e)))
+        → EndsSo result ending sent.rest
+    pipe_complete ending start (inl h) told stands sent r w d = status_cases h.end ending sent.rest h.is (complete _ _ _ ending refl refl sent h.end h.served r w d)
+    pipe_complete ending start (inr h) told stands sent r w d =
+        inr (inl (readable h.fault (contents (of_disk.seen disk_old)) start (stored_or_new (of_disk.seen disk_old) start stands) (h.said told) h.is (λ e. d (h.rose e))))
 
     -- ---- what is told of the files
 
@@ -276,6 +309,16 @@ module _ {D S K : Type 0} (of_disk : disk.Ghosts D) (of_source : source.Ghosts S
       told = λ refusal e. said_back h.fault (contents (of_disk.seen disk_old)) refusal (h.said told) e h.is;
     }
 
+-- nothing is given
+moves_none : {S : Type 0} (given left : S → Option (List ℕ)) (s : S) → Moves given left s s []
+moves_none given left s = record { gave = known_none (given s); took = known_nothing (left s) }
+
+none_yet : 0 < 1000000
+none_yet = omega arith
+
+kept_none : (kept : Kept) → kept ≡ with_more kept []
+kept_none kept = ap (λ (h : List Cmd). record { start = kept.start; history = h }) (sym (append-nil kept.history))
+
 -- memory was wanting before anything was touched
 pub nothing_opened : {D S K : Type 0} (of_disk : disk.Ghosts D) (of_source : source.Ghosts S) (of_sink : sink.Ghosts K)
     → ((at : D) (image : Files) → of_disk.left_since at (of_disk.moment at) image → (g : FileNo) → of_disk.may_leave at g (image g)) → (disk : D) (s : S) (k : K)
@@ -294,12 +337,17 @@ nothing_opened of_disk of_source of_sink only_now disk s k = record {
 -- the store was opened, and memory was wanting for a connection
 pub nothing_served : {D S K : Type 0} (of_disk : disk.Ghosts D) (of_source : source.Ghosts S) (of_sink : sink.Ghosts K) (second : Option ℕ) (admin : List ℕ) (store : Opened D) (s : S) (k : K)
     → Ran of_disk store store → StoreServed of_disk of_source of_sink second admin store store s s k k status.NoMemory
-nothing_served of_disk of_source of_sink second admin store s k ran = record {
-  end = end.NoMemory;
-  is = refl;
-  served = serve_nothing (terms true second admin) (alone_with of_source of_sink store.image store.waiting (of_disk.faults store.disk) s k);
-  ran = ran;
-}
+nothing_served of_disk of_source of_sink second admin store s k ran =
+    let here : Moment = alone_with of_source of_sink store.image store.waiting (of_disk.faults store.disk) s k 0 [] in
+    record {
+      count = 0;
+      unread = [];
+      end = end.NoMemory;
+      is = refl;
+      served = serve_none end.NoMemory (terms true second admin) here here [] [] [] (known_none here.given) (known_nothing here.left) (known_none here.held)
+          (kept_none store.image) refl (λ _. inl refl) (λ _. refl) none_yet (refl, inl refl);
+      ran = ran;
+    }
 
 -- the store was not opened
 pub refused_opening : {D S K : Type 0} (of_disk : disk.Ghosts D) (of_source : source.Ghosts S) (of_sink : sink.Ghosts K) (disk_old disk_new : D) (s : S) (k : K) (f : StoreFault) (result : Status)

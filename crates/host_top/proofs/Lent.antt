@@ -1,11 +1,11 @@
 -- A run over parts that were lent, told of what they were lent of.
-use Rattle.std.proofs.Common.{◌⊎◌, inl, inr, ℕ, List, Option, IsTrue}
+use Rattle.std.proofs.Common.{inl, inr, ℕ, List, Option}
 use Rattle.std.specs.Borrow.{GName}
 use Rattle.fh_world.specs.Disk.{Files, LeavesOnly}
 use Rattle.fh_world.specs.declared.Disk as disk
 use Rattle.fh_world.specs.declared.source.Source as source
 use Rattle.fh_world.specs.declared.sink.Sink as sink
-use Rattle.host_top.specs.Pipe.{PipeServed, PipeRefused, PipeRan}
+use Rattle.host_top.specs.Pipe.{PipeRan}
 use Rattle.host_top.specs.declared.status.Status.{Status}
 
 -- what a disk, a source and a sink mean where they are held by a part of something
@@ -38,6 +38,8 @@ module _ {D S K X Y Z : Type 0} (d : disk.Ghosts D) (s : source.Ghosts S) (k : s
     start = h.start;
     kept = h.kept;
     waiting = h.waiting;
+    count = h.count;
+    unread = h.unread;
     end = h.end;
     is = h.is;
     from = h.from;

@@ -11,7 +11,8 @@ use Rattle.fh_world.specs.declared.FileNo.{FileNo}
 use Rattle.fh_world.specs.declared.source.Source as source
 use Rattle.fh_world.specs.declared.sink.Sink as sink
 use Rattle.host_seat.specs.Direct.{waiting_in, Between, Ran}
-use Rattle.session_http.specs.Talk.{Moment, Served, terms}
+use Rattle.session_http.specs.Ends.{Served}
+use Rattle.session_http.specs.Talk.{Moment, terms}
 use Rattle.session_http.specs.declared.conn.ConnEnd.{ConnEnd}
 use Rattle.store_core.specs.Files.{Contents, New, NotAStore, Damaged, Stored, contents, StandsOrNew, KeepsMeaning}
 use Rattle.store_core.specs.Open.{IsSaid, LeavesMeaning}
@@ -21,6 +22,7 @@ use Rattle.store_core.specs.declared.faults.StoreFault.TheVariants as store_faul
 use Rattle.host_top.specs.declared.status.Status.{Status}
 use Rattle.host_top.specs.declared.status.Status.TheVariants as status
 use Rattle.host_top.specs.Status.{status_of, refusal_of}
+use Rattle.http_in.specs.Heads.{IsOpenTarget}
 
 -- the number of the only seat
 abbrev pub seat : ℕ
@@ -30,9 +32,10 @@ seat = 1
 abbrev pub opened : State → Kept
 opened start = record { start = start; history = [] }
 
--- what is known at a moment of the machine, which nobody else uses, of the source and of the sink
-abbrev pub alone_with : {S K : Type 0} → source.Ghosts S → sink.Ghosts K → Kept → Option Cmd → ℕ → S → K → Moment
-alone_with of_source of_sink kept waiting disk_faults s k = record {
+-- what is known at a moment of the machine, which nobody else uses, of the source, of the sink, and of the connection: how
+-- many requests were answered, and what its reader holds
+abbrev pub alone_with : {S K : Type 0} → source.Ghosts S → sink.Ghosts K → Kept → Option Cmd → ℕ → S → K → ℕ → List ℕ → Moment
+alone_with of_source of_sink kept waiting disk_faults s k count unread = record {
   seen = kept;
   waits = waiting_in waiting;
   number = seat;
@@ -42,6 +45,8 @@ alone_with of_source of_sink kept waiting disk_faults s k = record {
   read_faults = of_source.faults s;
   held = of_sink.held k;
   write_faults = of_sink.faults k;
+  count = count;
+  unread = unread;
 }
 
 -- A crash left what it might have left before the files were synced, or no store yet where there was none, or files
@@ -51,17 +56,20 @@ LeavesPrefix may_old seen_old first last files =
     ((g : FileNo) → may_old g (files g)) ⊎ (((contents files ≡ New) × (contents seen_old ≡ New)) ⊎ Between first last files)
 
 -- One connection was served over the store that the disk held, from the state that its files stood for, and left
--- this history and at most one command that waits for the disk. The status tells its end.
+-- this history and at most one command that waits for the disk. `count` is the connection's own count of its requests, and
+-- `unread` what its reader still held. The status tells its end.
 pub record PipeServed {D S K : Type 0} (of_disk : disk.Ghosts D) (of_source : source.Ghosts S) (of_sink : sink.Ghosts K) (second : Option ℕ) (admin : List ℕ)
     (disk_old disk_new : D) (input_old input_new : S) (output_old output_new : K) (result : Status) : Type 0 where
   pub start : State
   pub kept : Kept
   pub waiting : Option Cmd
+  pub count : ℕ
+  pub unread : List ℕ
   pub end : ConnEnd
   pub is : result ≡ status_of end
   pub from : IsTrue of_disk.tells → StandsOrNew (of_disk.seen disk_old) start
-  pub served : Served (terms true second admin) (alone_with of_source of_sink (opened start) None (of_disk.faults disk_old) input_old output_old)
-      (alone_with of_source of_sink kept waiting (of_disk.faults disk_new) input_new output_new) end
+  pub served : Served (terms true second admin) (alone_with of_source of_sink (opened start) None (of_disk.faults disk_old) input_old output_old 0 [])
+      (alone_with of_source of_sink kept waiting (of_disk.faults disk_new) input_new output_new count unread) end
   -- after a crash at any moment the files stand for the machine after a prefix of the history
   pub crash : IsTrue of_disk.tells → LeavesOnly of_disk.moment of_disk.left_since disk_old disk_new
       (LeavesPrefix (of_disk.may_leave disk_old) (of_disk.seen disk_old) (opened start) (with_waiting kept waiting))
@@ -99,13 +107,21 @@ pub record TellsContents (found : Contents) (result : Status) : Type 0 where
   pub damaged : (place : ℕ) → result ≡ status.Damaged place → found ≡ Damaged place
   pub told : (refusal : Status) → refused_as found ≡ Some refusal → (result ≡ refusal) ⊎ ((result ≡ status.DiskFault) ⊎ (result ≡ status.NoMemory))
 
+-- The status is that of this ending, or memory was wanting. Bytes that end inside a request target which no continuation
+-- makes one of a head may be told as cut or as bad.
+abbrev pub EndsSo : Status → ConnEnd → List ℕ → Type 0
+EndsSo result ending rest =
+    (result ≡ status_of ending) ⊎ ((result ≡ status.NoMemory) ⊎ (IsOpenTarget rest × ((result ≡ status.Cut) ⊎ (result ≡ status.Bad))))
+
 -- ---- between the opening of a store and its end
 
 -- a store that was opened served one connection
 pub record StoreServed {D S K : Type 0} (of_disk : disk.Ghosts D) (of_source : source.Ghosts S) (of_sink : sink.Ghosts K) (second : Option ℕ) (admin : List ℕ)
     (old new : Opened D) (input_old input_new : S) (output_old output_new : K) (result : Status) : Type 0 where
+  pub count : ℕ
+  pub unread : List ℕ
   pub end : ConnEnd
   pub is : result ≡ status_of end
-  pub served : Served (terms true second admin) (alone_with of_source of_sink old.image old.waiting (of_disk.faults old.disk) input_old output_old)
-      (alone_with of_source of_sink new.image new.waiting (of_disk.faults new.disk) input_new output_new) end
+  pub served : Served (terms true second admin) (alone_with of_source of_sink old.image old.waiting (of_disk.faults old.disk) input_old output_old 0 [])
+      (alone_with of_source of_sink new.image new.waiting (of_disk.faults new.disk) input_new output_new count unread) end
   pub ran : Ran of_disk old new

@@ -5,7 +5,7 @@ ghost use Rattle.fh_world.specs.Causes.{Rose};
 ghost use Rattle.session_http.specs.Spell.{Spells};
 ghost use Rattle.session_http.specs.declared.conn.ConnEnd.{ConnEnd};
 ghost use Rattle.store_core.specs.Files.{contents, StandsOrNew};
-ghost use Rattle.host_top.specs.Pipe.{PipeRan, StoreServed, TellsContents};
+ghost use Rattle.host_top.specs.Pipe.{EndsSo, PipeRan, StoreServed, TellsContents};
 ghost use Rattle.host_top.specs.Status.{status_of, refusal_of};
 ghost use Rattle.host_top.specs.Words.{IsToken, IsPipe};
 
@@ -38,7 +38,7 @@ pub fn run_pipe<D: Disk, S: Source, K: Sink, C: Clock>(
     // Another program's files and a damaged record are told exactly where they are.
     ensures contents { (store admin : List ℕ) → IsPipe (map string_bytes words.now) store admin → IsTrue D.tells → TellsContents (contents (D.seen disk.old)) result }
     // Over a store, where nothing fails, the status is that of the input's ending, or memory was wanting.
-    ensures complete { (store admin : List ℕ) (names : List (List ℕ)) (ending : ConnEnd) (start : State) → IsPipe (map string_bytes words.now) store admin → IsTrue D.tells → StandsOrNew (D.seen disk.old) start → Spells (S.left input.old) admin names ending → (Rose (S.faults input.old) (S.faults input.new) → ⊥) → (Rose (K.faults output.old) (K.faults output.new) → ⊥) → (Rose (D.faults disk.old) (D.faults disk.new) → ⊥) → (result ≡ status_of ending) ⊎ (result ≡ Status.NoMemory) }
+    ensures complete { (store admin : List ℕ) (ending : ConnEnd) (start : State) → IsPipe (map string_bytes words.now) store admin → IsTrue D.tells → StandsOrNew (D.seen disk.old) start → (sent : Spells (S.left input.old) ending) → (Rose (S.faults input.old) (S.faults input.new) → ⊥) → (Rose (K.faults output.old) (K.faults output.new) → ⊥) → (Rose (D.faults disk.old) (D.faults disk.new) → ⊥) → EndsSo result ending sent.rest }
     // A fault is told only where it came.
     ensures read { result ≡ Status.ReadFault → Rose (S.faults input.old) (S.faults input.new) }
     ensures write { result ≡ Status.WriteFault → Rose (K.faults output.old) (K.faults output.new) }

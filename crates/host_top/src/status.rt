@@ -7,7 +7,7 @@ use std::alloc::Global;
 /// How a run of the program ended.
 #[derive(Clone, Copy, Debug, PartialEq, Eq)]
 pub enum Status {
-    /// The input was read to its end.
+    /// The input was read to its end, or to a request that ends the connection.
     Done,
 
     /// The words of the command line are not in the form.
@@ -34,7 +34,7 @@ pub enum Status {
     /// The input ended inside a request.
     Cut,
 
-    /// The input has bytes that begin no request.
+    /// The input has bytes that begin no request, or that pass a limit.
     Bad,
 
     /// As many requests were answered as one connection may have.

@@ -14,6 +14,8 @@ returns-clause-served g c =
     let connection = c.serve_conn-end.ensures in
     rw (c.into_store-2.ensures, c.into_ends-input.ensures.source, c.into_ends-input.ensures.sink, c.status_of.ensures)
     (record {
+      count = c.serve_conn-end.new.conn.answered;
+      unread = c.serve_conn-end.new.conn.reader.held;
       end = c.serve_conn-end.result;
       is = refl;
       served = rw (c.new-port.ensures, c.in-Ok.ensures.ends.0, c.in-Ok.ensures.ends.1) at connection.served;
