@@ -5,8 +5,9 @@ usage: bench/get_metadata.py [--profile] [FOLDERS]
 
 Run it once `rt ci` has built crates/filehost/out/filehost, the proved program. It makes so many folders (by default one)
 in a store of its own and then sends 100,000 requests for the last of them in one pipelined input, as curl would write
-them, from a file and into a file. What counts is the best of the turns by the clock; what the program takes for the
-folders alone is taken off. The status is 1 where the output isn't the replies that are wanted, byte for byte.
+them, from a file and into a file. What counts is the best processor time of the turns, of the program and of the system
+for it; what it takes for the folders alone is taken off. The status is 1 where the output isn't the replies that are
+wanted, byte for byte.
 
 With --profile callgrind runs the program over 2,000 of them, and the functions that took most instructions by
 themselves, and with all that they called, are printed, those of the folders among them. Needs valgrind.
@@ -14,10 +15,10 @@ themselves, and with all that they called, are printed, those of the folders amo
 
 import os
 import re
+import resource
 import subprocess
 import sys
 import tempfile
-import time
 
 REQUESTS = 100_000
 PROFILED = 2_000
@@ -69,15 +70,15 @@ def write(path, content):
 
 
 def run(folder, name, before=()):
-    """Seconds that the program takes for an input over a new store, and its output. `before` are the words in front."""
+    """Processor seconds that the program takes for an input over a new store, and its output. `before` stands in front."""
     with tempfile.TemporaryDirectory(dir=folder) as store:
         words = [*before, PROGRAM, "pipe", "--store", store, "--admin", TOKEN]
         with open(os.path.join(folder, name), "rb") as source, open(os.path.join(folder, "output"), "w+b") as sink:
-            begun = time.perf_counter()
+            begun = resource.getrusage(resource.RUSAGE_CHILDREN)
             subprocess.run(words, stdin=source, stdout=sink, check=True)
-            passed = time.perf_counter() - begun
+            ended = resource.getrusage(resource.RUSAGE_CHILDREN)
             sink.seek(0)
-            return passed, sink.read()
+            return ended.ru_utime + ended.ru_stime - begun.ru_utime - begun.ru_stime, sink.read()
 
 
 def measured(folder, folders):
