@@ -9,8 +9,9 @@ them, from a file and into a file. What counts is the best processor time of the
 for it; what it takes for the folders alone is taken off. The status is 1 where the output isn't the replies that are
 wanted, byte for byte.
 
-With --profile callgrind runs the program over 2,000 of them, and the functions that took most instructions by
-themselves, and with all that they called, are printed, those of the folders among them. Needs valgrind.
+With --profile it prints where the time goes instead: the functions that took most time by themselves, by perf over all
+requests, what memory, zeroing and the system took of it, and the functions that took most instructions with all that
+they called, by callgrind over 2,000 requests (the folders are among them). Needs perf and valgrind.
 """
 
 import os
@@ -23,7 +24,12 @@ import tempfile
 REQUESTS = 100_000
 PROFILED = 2_000
 TURNS = 5
-SHOWN = 20  # lines of each table of a profile
+SHOWN = 24  # lines of each table of a profile
+KINDS = {
+    "memory taken and given back": r"malloc|calloc|free|_int_|realloc|rattle_alloc|rattle_dealloc|grow_amortized|unlink_chunk",
+    "zeroing": r"\[\.\] __memset",
+    "the system": r"\[k\]|__GI___libc_write|__libc_read",
+}
 TOKEN = "rootroot"
 PROGRAM = os.path.abspath(os.path.join(os.path.dirname(__file__), "../crates/filehost/out/filehost"))
 
@@ -96,18 +102,45 @@ def measured(folder, folders):
     return REQUESTS / (best - idle), right
 
 
-def profiled(folder, folders):
-    """Prints where the instructions went."""
-    write(os.path.join(folder, "some"), made(folders)[0] + looked(folders, PROFILED)[0])
+def report(words):
+    """The lines with a share that a program prints."""
+    told = subprocess.run(words, check=True, capture_output=True, text=True).stdout
+    return [line.strip() for line in told.splitlines() if re.search(r"\d%", line) and not line.startswith("#")]
+
+
+def by_time(folder):
+    """Prints the functions by their own time, and what kinds of them took together."""
+    kept = os.path.join(folder, "perf")
+    run(folder, "all", ["perf", "record", "-q", "-F", "20000", "-e", "cpu-clock", "-o", kept])
+    lines = report(["perf", "report", "-i", kept, "--stdio", "--sort", "symbol"])
+    shares = [(float(line.split("%")[0]), line) for line in lines]
+    print("by time, each function by itself")
+    for _, line in shares[:SHOWN]:
+        print("  " + " ".join(line.split())[:100])
+    for kind, names in KINDS.items():
+        print("  %5.1f%% %s" % (sum(share for share, line in shares if re.search(names, line)), kind))
+
+
+def by_instructions(folder):
+    """Prints the functions by their instructions, with all that they called."""
     kept = os.path.join(folder, "callgrind")
-    run(folder, "some", ["valgrind", "--tool=callgrind", "-q", "--callgrind-out-file=" + kept])
-    for way in ("no", "yes"):
-        words = ["callgrind_annotate", "--inclusive=" + way, "--show-percs=yes", "--threshold=100", kept]
-        told = subprocess.run(words, check=True, capture_output=True, text=True).stdout
-        lines = [line for line in told.splitlines() if re.match(r"\s*[\d,]+ \(\s*[\d.]+%\)", line)]
-        print("by itself" if way == "no" else "with all that it called")
-        for line in lines[:SHOWN]:
-            print("  " + line.strip()[:150])
+    # Where the C library fills memory by one repeated instruction, callgrind would count it once a byte.
+    plainly = "GLIBC_TUNABLES=" + ":".join("glibc.cpu.x86_rep_%s_threshold=1000000000" % way for way in ("stosb", "movsb"))
+    run(folder, "some", ["env", plainly, "valgrind", "--tool=callgrind", "-q", "--callgrind-out-file=" + kept])
+    lines = report(["callgrind_annotate", "--inclusive=yes", "--show-percs=yes", "--threshold=100", kept])
+    print("by instructions, each function with all that it called")
+    for line in [line for line in lines if PROGRAM in line][:SHOWN]:
+        share, name = re.search(r"\(\s*([\d.]+)%\)\s+\S*?:(.*) \[", line).groups()
+        print("  %5.1f%% %s" % (float(share), name))
+
+
+def profiled(folder, folders):
+    """Prints where the time went."""
+    make, look = made(folders)[0], looked(folders, 1)[0]
+    write(os.path.join(folder, "all"), make + REQUESTS * look)
+    write(os.path.join(folder, "some"), make + PROFILED * look)
+    by_time(folder)
+    by_instructions(folder)
 
 
 def main():
