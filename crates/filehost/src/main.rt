@@ -5,12 +5,17 @@
 use fh_world::{FileDisk, RealClock, StdSink, StdSource};
 use host_top::{Plan, Status, WordsFault, exit_code, read_words, run_pipe, status_line};
 use std::env;
+use std::io::ErrorKind;
 use std::process::ExitCode;
 
 /// The words after the program's name. A word that isn't UTF-8 is no word of a command.
 fn words_of(rt: &HostRuntime) -> Result<Vec<String>, WordsFault> {
-    let Ok(given) = env::args(rt) else {
-        return Err(WordsFault::Usage);
+    let given = match env::args(rt) {
+        Ok(given) => given,
+        Err(fault) => match fault.kind() {
+            ErrorKind::OutOfMemory => return Err(WordsFault::NoMemory),
+            _ => return Err(WordsFault::Usage),
+        },
     };
     let mut words = Vec::new(rt.alloc());
     for word in given.skip(1) {
