@@ -1,5 +1,5 @@
 -- How a run of `pipe` and its status follow from the opening of the store and from the connection.
-use Rattle.std.proofs.Common.{◌≡◌, ◌⊎◌, ℕ, ◌<◌, ◌≤◌, List, [], Option, None, Some, ◌∙◌, ap, append-nil, sym, refl, subst, inl, inr, arith, true, IsTrue}
+use Rattle.std.proofs.Common.{◌≡◌, ◌⊎◌, ℕ, ◌<◌, ◌≤◌, List, [], Option, None, Some, ◌∙◌, ap, sym, refl, subst, inl, inr, arith, true, IsTrue}
 use Rattle.fh_world.specs.Bytes.{Moves}
 use Rattle.fh_world.specs.Causes.{Rose}
 use Rattle.fh_world.specs.Disk.{Files, LeavesOnly}
@@ -9,8 +9,8 @@ use Rattle.fh_world.specs.declared.source.Source as source
 use Rattle.fh_world.specs.declared.sink.Sink as sink
 use Rattle.fh_world.proofs.Moments.{started, joined, weaker}
 use Rattle.fh_model.specs.declared.commands.Cmd.{Cmd}
-use Rattle.fh_model.specs.History.{Kept, Follows, with_more}
-use Rattle.fh_model.specs.State.{State, opening}
+use Rattle.fh_model.specs.History.{Kept, Follows}
+use Rattle.fh_model.specs.State.{State}
 use Rattle.host_seat.specs.Direct.{Between, Ran}
 use Rattle.host_seat.specs.RunLaws.{follows_same, follows_more, follows_waiting}
 use Rattle.http_in.specs.Heads.{IsOpenTarget}
@@ -20,6 +20,7 @@ use Rattle.session_http.specs.Spell.{Spells}
 use Rattle.session_http.specs.Talk.{Terms, Moment, terms}
 use Rattle.session_http.specs.declared.conn.ConnEnd.{ConnEnd}
 use Rattle.session_http.specs.declared.conn.ConnEnd.TheVariants as end
+use Rattle.session_http.proofs.Callers.{with_nothing}
 use Rattle.session_http.proofs.Complete.{complete}
 use Rattle.session_http.proofs.Serves.{serve_none}
 use Rattle.session_http.proofs.Talks.{known_none, known_nothing, rose_since}
@@ -316,9 +317,6 @@ moves_none given left s = record { gave = known_none (given s); took = known_not
 none_yet : 0 < 1000000
 none_yet = omega arith
 
-kept_none : (kept : Kept) → kept ≡ with_more kept []
-kept_none kept = ap (λ (h : List Cmd). record { start = kept.start; history = h }) (sym (append-nil kept.history))
-
 -- memory was wanting before anything was touched
 pub nothing_opened : {D S K : Type 0} (of_disk : disk.Ghosts D) (of_source : source.Ghosts S) (of_sink : sink.Ghosts K)
     → ((at : D) (image : Files) → of_disk.left_since at (of_disk.moment at) image → (g : FileNo) → of_disk.may_leave at g (image g)) → (disk : D) (s : S) (k : K)
@@ -345,7 +343,7 @@ nothing_served of_disk of_source of_sink second admin store s k ran =
       end = end.NoMemory;
       is = refl;
       served = serve_none end.NoMemory (terms true second admin) here here [] [] [] (known_none here.given) (known_nothing here.left) (known_none here.held)
-          (kept_none store.image) refl (λ _. inl refl) (λ _. refl) none_yet (refl, inl refl);
+          (with_nothing store.image) refl (λ _. inl refl) (λ _. refl) none_yet (refl, inl refl);
       ran = ran;
     }
 

@@ -1,5 +1,5 @@
 -- A head and its body, as calls of the reader gave them, are one request.
-use Rattle.std.proofs.Common.{◌≡◌, ℕ, ◌≤◌, List, [], ◌++◌, Option, refl, sym, ◌∙◌, ap, subst, append_assoc, arith, inl, inr}
+use Rattle.std.proofs.Common.{◌≡◌, ℕ, ◌≤◌, List, [], ◌++◌, Option, refl, sym, ◌∙◌, ap, subst, append_assoc, inl, inr}
 use Rattle.std.specs.Io.KnownBytes.{IsAtEnd, append_known, prepend_known}
 use Rattle.fh_world.specs.Causes.{Rose}
 use Rattle.fh_model.specs.History.{Kept, state_of}
@@ -21,9 +21,9 @@ use Rattle.session_http.specs.Bodies.{Holds}
 use Rattle.session_http.specs.Steps.{Hears, IsKnown, Opens, Passes, Stops}
 use Rattle.session_http.specs.Talk.{Terms, Moment}
 use Rattle.session_http.specs.declared.conn.ConnEnd.TheVariants.{Cut, ReadFault, NoMemory}
-use Rattle.session_http.proofs.Ones.{at_most}
+use Rattle.session_http.proofs.Ones.{at_most_to}
 use Rattle.session_http.proofs.Points.{last_same}
-use Rattle.session_http.proofs.Talks.{known_more, known_less, rose_since}
+use Rattle.session_http.proofs.Talks.{at_most, known_more, known_less, rose_since}
 
 -- what reading leaves as it was
 pub record Beside (mid new : Moment) : Type 0 where
@@ -38,9 +38,6 @@ pub record Beside (mid new : Moment) : Type 0 where
 
 same_place : (p q : Place) → Inside p ≡ Inside q → p ≡ q
 same_place p q e = cc
-
-at_most_same : (a b c : ℕ) → a ≤ b → c ≡ b → a ≤ c
-at_most_same a b c h e = omega (arith, h, e)
 
 module _ (t : Terms) (old mid new : Moment) (call : Option Called) (head : Head) (opens : Opens t old mid call head) (state : State)
     (at : state ≡ Inside (place_of (limit_of head.target.items) head.length)) (place : Place) (inside : state ≡ Inside place)
@@ -68,7 +65,7 @@ module _ (t : Terms) (old mid new : Moment) (call : Option Called) (head : Head)
         count = beside.count ∙ h.count;
         port_faults = beside.port_faults ∙ h.port_faults;
         read_later = at_most old.read_faults mid.read_faults new.read_faults h.read_later beside.read_later;
-        write_later = at_most_same old.write_faults mid.write_faults new.write_faults h.write_later beside.write_faults;
+        write_later = at_most_to old.write_faults mid.write_faults new.write_faults h.write_later beside.write_faults;
       }
 
   -- the bytes at hand begin with the head, however they came

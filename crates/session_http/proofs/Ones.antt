@@ -15,6 +15,7 @@ use Rattle.session_http.specs.Steps.{Hears, Turned}
 use Rattle.session_http.specs.Talk.{Terms, Moment, IsTurn, desk, first}
 use Rattle.session_http.specs.declared.conn.ConnEnd.TheVariants.{WriteFault}
 use Rattle.session_http.proofs.Serves.{turned, serve_broken}
+use Rattle.session_http.proofs.Talks.{at_most, rose_since}
 
 -- what a call of the port and a write leave as it was
 pub record Stays (mid new : Moment) : Type 0 where
@@ -40,9 +41,6 @@ at_most_from a b c e h = omega (arith, e, h)
 pub at_most_to : (a b c : ℕ) → a ≤ b → c ≡ b → a ≤ c
 at_most_to a b c h e = omega (arith, h, e)
 
-pub at_most : (a b c : ℕ) → a ≤ b → b ≤ c → a ≤ c
-at_most a b c h g = omega (arith, h, g)
-
 zero_on : (n : ℕ) → n ≡ 0 + n
 zero_on n = omega arith
 
@@ -56,9 +54,6 @@ part_on (x ∷ a) b n = ap (λ (l : List ℕ). x ∷ l) (part_on a b n) ∙ ap (
 -- some of a text behind another is some of both
 pub part_more : (a b part : List ℕ) → IsPart b part → IsPart (a ++ b) (a ++ part)
 part_more a b part h = (length a + h.0, ap (λ (l : List ℕ). a ++ l) h.1 ∙ part_on a b h.0)
-
-pub rose_from : (a b c : ℕ) → a ≤ b → Rose b c → Rose a c
-rose_from a b c l h = omega (arith, h)
 
 module _ (t : Terms) (old mid new : Moment) (call : Option Called) (last : Bool) (kept : Option (List ℕ)) (h : Hears t old mid call last kept)
     (stays : Stays mid new) (turn : Turn) (asked : turn.asked ≡ h.asked) (is : IsTurn t turn)
@@ -91,4 +86,4 @@ module _ (t : Terms) (old mid new : Moment) (call : Option Called) (last : Bool)
       (stays.given ∙ h.passes.gave) (h.passes.took ∙ ap (prepend_known h.bytes) (sym stays.left)) history (stays.number ∙ h.passes.number) is
       (leaves_from old.waits mid.waits new.waits h.passes.waits stays.waits) (interim_of h.asked.head ++ text) (interim_of h.asked.head ++ part)
       (held_more old.held (interim_of h.asked.head) part mid.held new.held h.passes.wrote wrote) whole_text
-      (part_more (interim_of h.asked.head) text part some) (rose_from old.write_faults mid.write_faults new.write_faults h.passes.write_later rose) few
+      (part_more (interim_of h.asked.head) text part some) (rose_since old.write_faults mid.write_faults new.write_faults h.passes.write_later rose) few

@@ -25,9 +25,9 @@ use Rattle.session_http.specs.declared.conn.ConnEnd.{ConnEnd}
 use Rattle.session_http.specs.declared.conn.ConnEnd.TheVariants.{Ended, Cut, Bad, ReadFault, WriteFault, DiskFault, NoMemory, Spent}
 use Rattle.session_http.proofs.Callers.{with_nothing}
 use Rattle.session_http.proofs.Heard.{Beside}
-use Rattle.session_http.proofs.Ones.{held_more, at_most, at_most_to, part_more, rose_from}
+use Rattle.session_http.proofs.Ones.{held_more, at_most_to, part_more}
 use Rattle.session_http.proofs.Points.{known_same, waits_same}
-use Rattle.session_http.proofs.Talks.{known_none}
+use Rattle.session_http.proofs.Talks.{at_most, rose_since, known_none}
 
 -- what a write leaves as it was
 pub record Same (mid new : Moment) : Type 0 where
@@ -86,7 +86,7 @@ module _ {K : Type 0} (held : K → Option (List ℕ)) (faults : K → ℕ) (a b
 
   broke : (t : Terms) (old : Moment) (bytes before : List ℕ) → Passes t old mid bytes before → Rose (faults a) (faults b) → Rose old.write_faults new.write_faults
   broke t old bytes before h rose =
-      rose_from old.write_faults mid.write_faults new.write_faults h.write_later
+      rose_since old.write_faults mid.write_faults new.write_faults h.write_later
       (rose_by mid.write_faults new.write_faults (faults a) (faults b) w.faults_old w.faults_new rose)
 
   last_text : (rest before : List ℕ) (it : Said) (text : List ℕ) → IsRefused rest before it → IsSaid it text → IsLastText rest (before ++ text)

@@ -17,10 +17,7 @@ use Rattle.session_http.specs.Steps.{Turned, StopsBy, Stops}
 use Rattle.session_http.specs.declared.conn.ConnEnd.{ConnEnd}
 use Rattle.session_http.specs.declared.conn.ConnEnd.TheVariants.{Ended, Cut, Bad, ReadFault, WriteFault, DiskFault, NoMemory, Spent}
 use Rattle.session_http.proofs.Begun.{begins_one}
-use Rattle.session_http.proofs.Talks.{talk_starts, talk_on, state_on, same_desk, replies_on, leaves_more, rose_since}
-
-below_nothing : (k : ℕ) → k < 0 → ⊥
-below_nothing k h = omega arith
+use Rattle.session_http.proofs.Talks.{at_most, below_nothing, talk_starts, talk_on, state_on, same_desk, replies_on, leaves_more, rose_since}
 
 -- the talk so far, where all requests that were read are answered, and none asked that the connection end
 pub record SoFar (t : Terms) (before now : Moment) : Type 0 where
@@ -147,9 +144,6 @@ module _ (t : Terms) (before mid now : Moment) (so : SoFar t before mid) where
 
 one_later : (n k m c : ℕ) → m ≡ n + k → c ≡ k + 1 → m + 1 ≡ n + c
 one_later n k m c e f = omega (arith, e, f)
-
-at_most : (a b c : ℕ) → a ≤ b → b ≤ c → a ≤ c
-at_most a b c h g = omega (arith, h, g)
 
 module _ (t : Terms) (before mid now : Moment) (so : SoFar t before mid) (turn : Turn) (h : Turned t mid now turn) (counted : now.count ≡ mid.count + 1) where
   -- the talk behind it

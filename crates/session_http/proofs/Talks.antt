@@ -30,7 +30,7 @@ pub known_nothing : (o : Option (List ℕ)) → o ≡ prepend_known [] o
 known_nothing None = refl
 known_nothing (Some x) = refl
 
-below_nothing : (k : ℕ) → k < 0 → ⊥
+pub below_nothing : (k : ℕ) → k < 0 → ⊥
 below_nothing k h = omega arith
 
 requests_on : (turns more : List Turn) → requests (turns ++ more) ≡ requests turns ++ requests more
@@ -119,6 +119,9 @@ leaves_more a b c failed (inr (inl e)) (inl f) = inr (inl (f ∙ e))
 leaves_more a b c failed (inr (inr e)) (inl f) = inr (inl (f ∙ e))
 leaves_more a b c failed h (inr (inl f)) = inr (inl f)
 leaves_more a b c failed h (inr (inr f)) = inr (inr f)
+
+pub at_most : (a b c : ℕ) → a ≤ b → b ≤ c → a ≤ c
+at_most a b c h g = omega (arith, h, g)
 
 -- a fault that rose later has risen since the start
 pub rose_since : (a b c : ℕ) → a ≤ b → Rose b c → Rose a c

@@ -1,6 +1,5 @@
 //! Answers a request that was read whole.
-ghost use Rattle.std.specs.Prelude.{◌≡◌, ◌≤◌, [], List, ℕ, IfOk, OnErr, IsErrOf, IsTrue, option_map};
-ghost use Rattle.cmd_codec.specs.Commands.{IsShort};
+ghost use Rattle.std.specs.Prelude.{◌≡◌, ◌≤◌, [], List, ℕ, IfOk, OnErr, IsErrOf, option_map};
 ghost use Rattle.fh_world.specs.Causes.{Rose};
 ghost use Rattle.host_seat.specs.Port.{Leaves, OthersEnter};
 ghost use Rattle.session_rules.specs.Decisions.{argued, decided, enters, looks};
@@ -8,7 +7,8 @@ ghost use Rattle.session_http.specs.Bodies.{Holds};
 ghost use Rattle.session_http.specs.Points.{Acts, Calls, Misses, called_as, called_if, IsStuck};
 
 use api_types::Route;
-use fh_model::{Act, LAST_SECOND, NoMemory, Text};
+use cmd_codec::has_spelling;
+use fh_model::{Act, Cmd, LAST_SECOND, NoMemory, Text};
 use host_seat::{CommitFault, Port};
 use http_in::Head;
 use session_rules::{
@@ -16,9 +16,6 @@ use session_rules::{
     look_answer, user_of, wish_of,
 };
 use std::alloc::Global;
-
-/// A length that no text of a command has, in bytes.
-const TEXT_END_BYTES: usize = 1 << 32;
 
 /// Who calls which route, or why nobody does.
 pub(crate) type Call = Result<(Route, u64), HeadFault>;
@@ -73,15 +70,6 @@ fn look<P: Port>(
     answer_reply(alloc, &answer, close)
 }
 
-/// Whether a command can carry the act: no text of a body is as long as 2^32 bytes, which the limits of bodies see to.
-fn is_short(act: &Act) -> bool
-    ensures { IsTrue result → IsShort act.now }
-{
-    match act {
-        Act::MakeFolder { path, .. } => path.as_bytes().len() < TEXT_END_BYTES,
-    }
-}
-
 /// Lets the command of an act enter, and gives the reply.
 #[tactic(auto, using(crate::proofs::Callers::acts_entered, crate::proofs::Callers::misses_still, crate::proofs::Callers::misses_others, crate::proofs::Callers::misses_entered, crate::proofs::Callers::stuck_at))]
 fn enter<P: Port>(
@@ -100,9 +88,12 @@ fn enter<P: Port>(
     ensures later { P.faults port.old ≤ P.faults port.new }
     ensures went { P.went port.old port.new }
 {
-    if !is_short(&act) {
+    // No text of a body is as long as 2^32 bytes, which the limits of bodies see to.
+    let cmd = Cmd { seat: 0, at, act };
+    if !has_spelling(&cmd) {
         return Err(CommitFault::NoMemory);
     }
+    let Cmd { act, .. } = cmd;
     let reply = port.commit(at, act, &[])?;
     let answer = folder_answer(reply);
     let text = answer_reply(alloc, &answer, close)?;
