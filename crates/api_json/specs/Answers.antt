@@ -1,14 +1,18 @@
 -- The JSON of answers. Fields stand in the byte order of their keys, and a text is compact, as `serde_json` writes it.
 use Rattle.std.specs.Prelude.{ℕ, ◌-◌, codes, Bool, true, false, if◌then◌else◌, List, [], ◌∷◌, ◌++◌, flat_map, length, replicate, Option, None, Some}
 use Rattle.std.specs.Fmt.{digits}
-use Rattle.serde_json.specs.Data.{Data, Members, member, no_members, number, object, string, unsigned}
+use Rattle.hex.specs.Hex.{encode_lower}
+use Rattle.serde_json.specs.Data.{Data, Members, boolean, member, no_members, number, object, string, unsigned}
 use Rattle.serde_json.specs.Written.{compact_text}
+use Rattle.fh_model.specs.declared.files.FileMeta.{FileMeta}
+use Rattle.fh_model.specs.declared.names.Name.{Name}
 use Rattle.fh_model.specs.declared.replies.Entry.{Entry}
-use Rattle.fh_model.specs.declared.replies.Entry.TheVariants.{Folder}
+use Rattle.fh_model.specs.declared.replies.Entry.TheVariants.{File, Folder}
 use Rattle.fh_model.specs.declared.replies.Refusal.{Refusal}
 use Rattle.fh_model.specs.Paths.{display_of, last_shown, lower_of}
+use Rattle.fh_model.specs.Stamps.{stamp_text}
 use Rattle.api_types.specs.declared.answer.Answer.{Answer}
-use Rattle.api_types.specs.declared.answer.Answer.TheVariants.{Tagged, Wrapped, Error}
+use Rattle.api_types.specs.declared.answer.Answer.TheVariants.{Tagged, Plain, Wrapped, Error}
 
 -- a key and its value
 abbrev pub Field : Type 0
@@ -36,9 +40,30 @@ session_text session = codes "us:" ++ hex16 session
 -- ---- entries
 
 abbrev pub tag_of : Entry → List ℕ
+tag_of (File names meta) = codes "file"
 tag_of (Folder names id) = codes "folder"
 
+abbrev pub version_fields : FileMeta → List Field
+version_fields meta =
+    (codes "rev", string (hex16 meta.rev)) ∷
+    (codes "server_modified", string (stamp_text meta.server)) ∷
+    (codes "size", number (unsigned meta.size)) ∷ []
+
+abbrev pub named_fields : List Name → FileMeta → List Field
+named_fields names meta =
+    (codes "name", string (last_shown names)) ∷
+    (codes "path_display", string (display_of names)) ∷
+    (codes "path_lower", string (lower_of names)) ∷ version_fields meta
+
+abbrev pub file_fields : List Name → FileMeta → List Field
+file_fields names meta =
+    (codes "client_modified", string (stamp_text meta.client)) ∷
+    (codes "content_hash", string (encode_lower meta.hash.bytes)) ∷
+    (codes "id", string (id_text meta.id)) ∷
+    (codes "is_downloadable", boolean true) ∷ named_fields names meta
+
 abbrev pub entry_fields : Entry → List Field
+entry_fields (File names meta) = file_fields names meta
 entry_fields (Folder names id) =
     (codes "id", string (id_text id)) ∷
     (codes "name", string (last_shown names)) ∷
@@ -94,6 +119,7 @@ refusal_fields refusal =
 
 abbrev pub answer_data : Answer → Data
 answer_data (Tagged entry) = entry_data true entry
+answer_data (Plain entry) = entry_data false entry
 answer_data (Wrapped entry tagged) = object_of ((codes "metadata", entry_data tagged entry) ∷ [])
 answer_data (Error refusal) = object_of (refusal_fields refusal)
 

@@ -10,6 +10,10 @@ pub enum FieldName {
     Path,
     Autorename,
     IncludeDeleted,
+    Mode,
+    ClientModified,
+    StrictConflict,
+    ContentHash,
 }
 
 impl FieldName {
@@ -23,6 +27,10 @@ impl FieldName {
             FieldName::Path => "path",
             FieldName::Autorename => "autorename",
             FieldName::IncludeDeleted => "include_deleted",
+            FieldName::Mode => "mode",
+            FieldName::ClientModified => "client_modified",
+            FieldName::StrictConflict => "strict_conflict",
+            FieldName::ContentHash => "content_hash",
         }
     }
 }
@@ -38,6 +46,15 @@ pub(crate) enum Kind {
 
     /// A whole number from 0 to `NUMBER_MAX`, which has to be there.
     Number,
+
+    /// The text of a moment, or nothing.
+    Moment,
+
+    /// 64 lower-case hex digits, or nothing.
+    Digest,
+
+    /// How a commit treats a file at its path, or `add` where nothing says so.
+    Mode,
 }
 
 /// What is asked of a field's value besides its kind.
@@ -50,6 +67,9 @@ pub(crate) enum Rule {
 
     /// The truth value is this one, since the other isn't served.
     Only(bool),
+
+    /// The mode is `add`, since the others aren't served.
+    Adds,
 }
 
 /// A field of a route's argument.
@@ -89,6 +109,45 @@ static GET_METADATA: [Field; 2] = [
     },
 ];
 
+static UPLOAD: [Field; 6] = [
+    Field {
+        name: FieldName::Path,
+        kind: Kind::Text,
+        rule: Rule::Any,
+    },
+    Field {
+        name: FieldName::Mode,
+        kind: Kind::Mode,
+        rule: Rule::Adds,
+    },
+    Field {
+        name: FieldName::Autorename,
+        kind: Kind::Flag { default: false },
+        rule: Rule::Only(false),
+    },
+    Field {
+        name: FieldName::ClientModified,
+        kind: Kind::Moment,
+        rule: Rule::Any,
+    },
+    Field {
+        name: FieldName::StrictConflict,
+        kind: Kind::Flag { default: false },
+        rule: Rule::Only(false),
+    },
+    Field {
+        name: FieldName::ContentHash,
+        kind: Kind::Digest,
+        rule: Rule::Any,
+    },
+];
+
+static DOWNLOAD: [Field; 1] = [Field {
+    name: FieldName::Path,
+    kind: Kind::Text,
+    rule: Rule::Any,
+}];
+
 /// The fields of a route's argument, in the order in which they are tested.
 pub(crate) fn fields_of(route: Route) -> &'static [Field]
     ensures { result.now ≡ fields_of route }
@@ -96,5 +155,7 @@ pub(crate) fn fields_of(route: Route) -> &'static [Field]
     match route {
         Route::CreateFolder => &CREATE_FOLDER,
         Route::GetMetadata => &GET_METADATA,
+        Route::Upload => &UPLOAD,
+        Route::Download => &DOWNLOAD,
     }
 }

@@ -16,6 +16,8 @@
 mod complaints;
 mod entries;
 mod fields;
+mod modes;
+mod optionals;
 mod reading;
 mod refusals;
 mod requests;

@@ -2,11 +2,11 @@
 ghost use Rattle.std.specs.Prelude.{◌≡◌};
 ghost use Rattle.std.specs.Char.{is_ascii_digit};
 ghost use Rattle.std.specs.List.{list_all};
-ghost use Rattle.api_json.specs.Values.{are_namespace_digits, is_root_path, keeps};
+ghost use Rattle.api_json.specs.Values.{are_namespace_digits, is_add, is_root_path, keeps};
 
 use crate::fields::Rule;
 use crate::values::Held;
-use fh_model::NAMESPACE_MAX_DIGITS;
+use fh_model::{Mode, NAMESPACE_MAX_DIGITS};
 
 fn are_digits(bytes: &[u8]) -> bool
     ensures { result ≡ list_all is_ascii_digit bytes.now }
@@ -33,12 +33,22 @@ fn is_root_path(path: &[u8]) -> bool
     }
 }
 
+fn is_add(mode: Mode) -> bool
+    ensures { result ≡ is_add mode }
+{
+    match mode {
+        Mode::Add => true,
+        Mode::Overwrite | Mode::Update(_) => false,
+    }
+}
+
 pub(crate) fn keeps(rule: Rule, value: &Held) -> bool
     ensures { result ≡ keeps rule value.now }
 {
     match (rule, value) {
         (Rule::BelowRoot, Held::Text(path)) => !is_root_path(path.as_bytes()),
         (Rule::Only(flag), Held::Flag(value)) => flag == *value,
+        (Rule::Adds, Held::Mode(mode)) => is_add(*mode),
         _ => true,
     }
 }

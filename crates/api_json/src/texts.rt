@@ -1,9 +1,10 @@
 //! Texts of entries and refusals that have several parts.
 ghost use Rattle.std.specs.Prelude.{◌≡◌, ◌++◌, IfOk, OnOk, replicate, string_bytes};
+ghost use Rattle.hex.specs.Hex.{encode_lower};
 ghost use Rattle.fh_model.specs.Paths.{display_of, last_shown, lower_of};
 ghost use Rattle.api_json.specs.Answers.{hex16, id_text, session_text, summary};
 
-use fh_model::{ID_DIGITS, Name, NoMemory, Text};
+use fh_model::{Bytes32, ID_DIGITS, Name, NoMemory, Text};
 use std::alloc::Global;
 
 fn push_zeros(out: &mut String, count: usize) -> Result<(), NoMemory>
@@ -31,6 +32,22 @@ pub(crate) fn id_text(alloc: Global, id: u64) -> Result<String, NoMemory>
     let mut out = String::from_str(alloc, "id:")?;
     push_hex16(&mut out, id)?;
     Ok(out)
+}
+
+pub(crate) fn rev_text(alloc: Global, rev: u64) -> Result<String, NoMemory>
+    ensures { IfOk result (λ text. string_bytes text ≡ hex16 rev) }
+{
+    let mut out = String::new(alloc);
+    push_hex16(&mut out, rev)?;
+    Ok(out)
+}
+
+/// The digits of a digest.
+pub(crate) fn hash_text(alloc: Global, hash: &Bytes32) -> Result<String, NoMemory>
+    ensures { IfOk result (λ text. string_bytes text ≡ encode_lower hash.now.bytes) }
+{
+    let text = hex::encode(alloc, hash.bytes.as_slice())?;
+    Ok(text)
 }
 
 pub(crate) fn session_text(alloc: Global, session: u64) -> Result<String, NoMemory>

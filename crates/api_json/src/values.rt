@@ -5,9 +5,11 @@ ghost use Rattle.api_json.specs.Values.{flag_in, held_in, number_in, text_in, va
 ghost use Rattle.api_json.specs.declared.reading.ReadFault.TheVariants as fault;
 
 use crate::fields::{Field, Kind, NUMBER_MAX};
+use crate::modes::mode_in;
+use crate::optionals::{digest_in, moment_in};
 use crate::reading::ReadFault;
 use crate::rules::keeps;
-use fh_model::{NoMemory, Text};
+use fh_model::{Bytes32, Mode, NoMemory, Text};
 use serde_json::Value;
 use std::alloc::Global;
 use std::collections::VecDeque;
@@ -18,6 +20,9 @@ pub(crate) enum Held {
     Text(Text),
     Flag(bool),
     Number(u64),
+    Moment(Option<u64>),
+    Digest(Option<Bytes32>),
+    Mode(Mode),
 }
 
 fn text_in(alloc: Global, found: Option<&Value>) -> Result<Option<Held>, NoMemory>
@@ -62,6 +67,9 @@ fn held_in(alloc: Global, kind: Kind, found: Option<&Value>) -> Result<Option<He
         Kind::Text => text_in(alloc, found),
         Kind::Flag { default } => Ok(flag_in(default, found)),
         Kind::Number => Ok(number_in(found)),
+        Kind::Moment => moment_in(alloc, found),
+        Kind::Digest => Ok(digest_in(found)),
+        Kind::Mode => Ok(mode_in(found)),
     }
 }
 

@@ -1,5 +1,5 @@
 //! Writes the body of a reply.
-ghost use Rattle.std.specs.Prelude.{◌≡◌, ◌++◌, IfOk, OnOk};
+ghost use Rattle.std.specs.Prelude.{◌≡◌, ◌++◌, IfOk, IsUtf8, OnOk};
 ghost use Rattle.api_json.specs.Answers.{answer_data, answer_text};
 ghost use Rattle.api_json.specs.Tokens.{tokens_of};
 
@@ -19,6 +19,7 @@ fn put_answer(alloc: Global, out: &mut Writer, answer: &Answer) -> Result<(), No
 {
     match answer {
         Answer::Tagged(entry) => put_entry(alloc, out, entry, true),
+        Answer::Plain(entry) => put_entry(alloc, out, entry, false),
         Answer::Wrapped { entry, tagged } => {
             out.begin_object()?;
             out.key("metadata")?;
@@ -35,7 +36,8 @@ fn put_answer(alloc: Global, out: &mut Writer, answer: &Answer) -> Result<(), No
 
 /// The body of a reply that tells an answer: compact JSON, with keys in byte order.
 pub fn write(alloc: Global, answer: &Answer) -> Result<Vec<u8>, NoMemory>
-    ensures { IfOk result (λ text. text.items ≡ answer_text answer.now) }
+    ensures text { IfOk result (λ text. text.items ≡ answer_text answer.now) }
+    ensures utf8 { IfOk result (λ text. IsUtf8 text.items) }
 {
     let mut out = Writer::new(Vec::with_capacity(alloc, USUAL_BODY_BYTES)?);
     put_answer(alloc, &mut out, answer)?;

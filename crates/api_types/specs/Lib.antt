@@ -1,1 +1,3 @@
+pub mod Calendar
 pub mod Routes
+pub mod Stamps

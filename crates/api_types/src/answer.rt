@@ -6,6 +6,9 @@ pub enum Answer {
     /// An entry with its tag.
     Tagged(Entry),
 
+    /// An entry without its tag.
+    Plain(Entry),
+
     /// An entry under `metadata`, with its tag or without.
     Wrapped { entry: Entry, tagged: bool },
 

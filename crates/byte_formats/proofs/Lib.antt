@@ -9,3 +9,4 @@ pub mod TextLoop
 pub mod Loop
 pub mod Moments
 pub mod Writing
+pub mod PieceLaws

@@ -4,3 +4,4 @@ pub mod Fields
 pub mod Texts
 pub mod Lists
 pub mod Given
+pub mod Pieces

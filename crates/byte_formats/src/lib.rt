@@ -8,6 +8,7 @@
 //! | text | how many bytes it has as a `u32`, and the bytes, which are UTF-8 |
 //! | field that may be absent | 1 byte 0, or 1 byte 1 and the field |
 //! | list | how many items it has as a `u32`, and the items |
+//! | piece | place `u64`, length `u32` from 1 to 4,194,304, and the 32 bytes of the digest |
 //!
 //! A format says how the values of a type are spelled as bytes. Each value has at most one spelling, what is spelled
 //! is read back, and where bytes are no spelling the first bad byte is known: the first one with which no spelling
@@ -26,12 +27,13 @@ mod list;
 mod moment;
 mod number;
 mod optional;
+mod piece;
 mod stop;
 mod text;
 
 pub use fault::CodecFault;
 pub use field::{Field, put_byte};
-pub use moment::moment_at;
+pub use moment::{moment_at, optional_moment_at};
 pub use stop::Stop;
 
 #[cfg(test)]

@@ -1,5 +1,5 @@
 ghost use Rattle.std.specs.Prelude.{◌≡◌};
-ghost use Rattle.byte_formats.specs.Fields.{moment, over_at};
+ghost use Rattle.byte_formats.specs.Fields.{moment, optional, over_at};
 ghost use Rattle.byte_formats.specs.Given.{Gives};
 
 use crate::{Field, Stop};
@@ -35,5 +35,20 @@ pub fn moment_at(alloc: Global, bytes: &[u8]) -> Result<(u64, &[u8]), Stop>
     match over_at(&LAST_SECOND.to_be_bytes(), bytes) {
         Some(left) => Err(Stop::Bad(left)),
         None => u64::read(alloc, bytes),
+    }
+}
+
+/// Takes a moment that may be absent.
+pub fn optional_moment_at(alloc: Global, bytes: &[u8]) -> Result<(Option<u64>, &[u8]), Stop>
+    ensures { Gives (λ x. (x.0, x.1.now)) result ((optional moment).read bytes.now) }
+{
+    match bytes {
+        [] => Err(Stop::Bad(0)),
+        [0, rest @ ..] => Ok((None, rest)),
+        [1, rest @ ..] => {
+            let (moment, rest) = moment_at(alloc, rest)?;
+            Ok((Some(moment), rest))
+        }
+        [_, ..] => Err(Stop::Bad(bytes.len())),
     }
 }

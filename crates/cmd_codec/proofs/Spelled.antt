@@ -1,7 +1,7 @@
 -- What else is known of bytes that spell a command.
 use Rattle.std.proofs.Common.{◌≡◌, ℕ, ◌<◌, List, ◌∷◌, drop, arith}
 use Rattle.fh_model.specs.declared.commands.Act.{Act}
-use Rattle.fh_model.specs.declared.commands.Act.TheVariants.{MakeFolder}
+use Rattle.fh_model.specs.declared.commands.Act.TheVariants.{MakeFolder, Upload}
 use Rattle.fh_model.specs.declared.commands.Cmd.{Cmd}
 use Rattle.byte_formats.specs.Spelling.{Spells}
 use Rattle.byte_formats.proofs.Whole.{one_value}
@@ -18,3 +18,4 @@ command_begins bytes cmd s = (drop 1 (command.spell cmd), s.parts)
 
 pub kind_below_rows : (a : Act) → kind_of a < 128
 kind_below_rows (MakeFolder user path rename) = omega arith
+kind_below_rows (Upload user commit drafted last) = omega arith

@@ -5,11 +5,13 @@ use fh_model::Act;
 
 pub const MAKE_FOLDER: u8 = 1;
 
+pub const UPLOAD: u8 = 2;
+
 /// Whether an act has this number.
 pub fn is_kind(kind: u8) -> bool
     ensures { result ≡ is_kind kind }
 {
-    matches!(kind, MAKE_FOLDER)
+    matches!(kind, MAKE_FOLDER | UPLOAD)
 }
 
 /// The number of the act.
@@ -18,5 +20,6 @@ pub fn kind_of(act: &Act) -> u8
 {
     match act {
         Act::MakeFolder { .. } => MAKE_FOLDER,
+        Act::Upload { .. } => UPLOAD,
     }
 }

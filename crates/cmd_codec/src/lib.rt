@@ -10,8 +10,12 @@
 //! | kind | act | fields |
 //! |---|---|---|
 //! | 1 | make folder | user `u64`, path text, rename truth value |
+//! | 2 | upload | user `u64`, commit, drafted `u32`, last piece if there is one |
 //!
-//! Numbers have the highest byte first; how a text or a truth value is spelled, `byte_formats` says.
+//! A commit is a path text, a mode, the truth values rename and strict, and the client's moment if there is one. A mode
+//! is one byte: 0 for add, 1 for overwrite, or 2 for update with the rev as a `u64` behind it.
+//!
+//! Numbers have the highest byte first; how the other fields are spelled, `byte_formats` says.
 //!
 //! A command has at most one spelling. `decode` gives back what `encode` wrote, and gives nothing else: where the
 //! bytes are no spelling it names the first byte with which no spelling begins. What a command means, and whether it

@@ -3,11 +3,11 @@ ghost use Rattle.byte_formats.specs.Spelling.{Spells, IsFirstBad, whole_at};
 ghost use Rattle.byte_formats.specs.Given.{Gives};
 ghost use Rattle.byte_formats.specs.declared.fault.CodecFault.TheVariants.{Bad, NoMemory};
 ghost use Rattle.fh_model.specs.declared.commands.Cmd.{Cmd};
-ghost use Rattle.cmd_codec.specs.Commands.{act, command, is_kind, make_folder};
+ghost use Rattle.cmd_codec.specs.Commands.{act, command, commit_format, is_kind, make_folder, mode_format, upload};
 
-use crate::kinds::{MAKE_FOLDER, is_kind};
-use byte_formats::{CodecFault, Field, Stop, moment_at};
-use fh_model::{Act, Cmd, Text};
+use crate::kinds::{MAKE_FOLDER, UPLOAD, is_kind};
+use byte_formats::{CodecFault, Field, Stop, moment_at, optional_moment_at};
+use fh_model::{Act, Cmd, Commit, Mode, Piece, Text};
 use std::alloc::Global;
 
 #[tactic(auto, unfolding(crate::specs::Commands::make_folder))]
@@ -20,6 +20,58 @@ fn make_folder_at(alloc: Global, bytes: &[u8]) -> Result<(Act, &[u8]), Stop>
     Ok((Act::MakeFolder { user, path, rename }, rest))
 }
 
+#[tactic(auto, unfolding(crate::specs::Commands::mode_at))]
+fn mode_at(alloc: Global, bytes: &[u8]) -> Result<(Mode, &[u8]), Stop>
+    ensures { Gives (λ x. (x.0, x.1.now)) result (mode_format.read bytes.now) }
+{
+    match bytes {
+        [] => Err(Stop::Bad(0)),
+        [0, rest @ ..] => Ok((Mode::Add, rest)),
+        [1, rest @ ..] => Ok((Mode::Overwrite, rest)),
+        [2, rest @ ..] => {
+            let (rev, rest) = u64::read(alloc, rest)?;
+            Ok((Mode::Update(rev), rest))
+        }
+        [_, ..] => Err(Stop::Bad(bytes.len())),
+    }
+}
+
+#[tactic(auto, unfolding(crate::specs::Commands::commit_format))]
+fn commit_at(alloc: Global, bytes: &[u8]) -> Result<(Commit, &[u8]), Stop>
+    ensures { Gives (λ x. (x.0, x.1.now)) result (commit_format.read bytes.now) }
+{
+    let (path, rest) = Text::read(alloc, bytes)?;
+    let (mode, rest) = mode_at(alloc, rest)?;
+    let (rename, rest) = bool::read(alloc, rest)?;
+    let (strict, rest) = bool::read(alloc, rest)?;
+    let (client, rest) = optional_moment_at(alloc, rest)?;
+    let commit = Commit {
+        path,
+        mode,
+        rename,
+        strict,
+        client,
+    };
+    Ok((commit, rest))
+}
+
+#[tactic(auto, unfolding(crate::specs::Commands::upload))]
+fn upload_at(alloc: Global, bytes: &[u8]) -> Result<(Act, &[u8]), Stop>
+    ensures { Gives (λ x. (x.0, x.1.now)) result (upload.read bytes.now) }
+{
+    let (user, rest) = u64::read(alloc, bytes)?;
+    let (commit, rest) = commit_at(alloc, rest)?;
+    let (drafted, rest) = u32::read(alloc, rest)?;
+    let (last, rest) = <Option<Piece>>::read(alloc, rest)?;
+    let act = Act::Upload {
+        user,
+        commit,
+        drafted,
+        last,
+    };
+    Ok((act, rest))
+}
+
 /// Takes the fields of an act of this kind.
 fn act_at(alloc: Global, kind: u8, bytes: &[u8]) -> Result<(Act, &[u8]), Stop>
     requires { is_kind kind ≡ true }
@@ -27,6 +79,7 @@ fn act_at(alloc: Global, kind: u8, bytes: &[u8]) -> Result<(Act, &[u8]), Stop>
 {
     match kind {
         MAKE_FOLDER => make_folder_at(alloc, bytes),
+        UPLOAD => upload_at(alloc, bytes),
         _ => unreachable!(),
     }
 }

@@ -42,6 +42,8 @@ s = record {
       ∷ record { number = 2; shared = true; floor = 0; members = 1 ∷ []; changes = Put (doc ∷ []) (Folder 3) ∷ [] }
       ∷ record { number = 3; shared = true; floor = 0; members = 1 ∷ []; changes = Put (doc ∷ []) (Folder 4) ∷ [] }
       ∷ [];
+  revisions = [];
+  sessions = [];
   next = record { rev = 1; id = 5; session = 1; user = 2; namespace = 4 };
   moment = 0;
 }

@@ -1,5 +1,5 @@
 -- Runs that go on by one command or one request.
-use Rattle.std.proofs.Common.{◌≡◌, ℕ, List, [], ◌∷◌, ◌++◌, refl, sym, ◌∙◌, ap, append_assoc, append-nil}
+use Rattle.std.proofs.Common.{◌≡◌, List, [], ◌∷◌, ◌++◌, refl, ◌∙◌, sym, ap, append-nil, append_assoc}
 use Rattle.fh_model.specs.declared.commands.Cmd.{Cmd}
 use Rattle.fh_model.specs.History.{Kept, state_of, state_after, with_more, next_of, reply_of, entered}
 use Rattle.fh_model.specs.State.{State}
@@ -11,6 +11,10 @@ state_after-append s (cmd ∷ g) h = state_after-append (step s cmd).state g h
 
 pub state_after_more : (s : State) (h : List Cmd) (cmd : Cmd) → state_after s (h ++ cmd ∷ []) ≡ (step (state_after s h) cmd).state
 state_after_more s h cmd = state_after-append s h (cmd ∷ [])
+
+-- a history with nothing more
+pub with_nothing : (kept : Kept) → kept ≡ with_more kept []
+with_nothing kept = ap (λ (h : List Cmd). record { start = kept.start; history = h }) (sym (append-nil kept.history))
 
 -- the machine after more commands
 pub state_more : (kept : Kept) (more : List Cmd) → state_of (with_more kept more) ≡ state_after (state_of kept) more

@@ -10,13 +10,13 @@ use Rattle.fh_model.specs.declared.changes.Change.{Change}
 use Rattle.fh_model.specs.declared.changes.Change.TheVariants.{Put, Gone}
 use Rattle.fh_model.specs.declared.changes.Item.{Item}
 use Rattle.fh_model.specs.declared.changes.Node.{Node}
-use Rattle.fh_model.specs.declared.changes.Node.TheVariants.{Folder, Mount}
+use Rattle.fh_model.specs.declared.changes.Node.TheVariants.{File, Folder, Mount}
 use Rattle.fh_model.specs.declared.names.Name.{Name}
 use Rattle.fh_model.specs.declared.state.Namespace.{Namespace}
 use Rattle.fh_model.specs.KeyOrder.{key_cmp}
 use Rattle.fh_model.specs.Keys.{Key, key_of}
 use Rattle.fh_model.specs.TreeOrder.{comes_before, is_in_order}
-use Rattle.fh_model.specs.Trees.{Tree, before, behind, changed, tree_after, tree_of, with_node}
+use Rattle.fh_model.specs.Trees.{Tree, before, behind, changed, tree_after, tree_of, with_node, without}
 
 -- what holds of all holds of those that are kept
 all_kept : (holds keeps : Item → Bool) (tree : Tree) → list_all holds tree ≡ true → list_all holds (filter keeps tree) ≡ true
@@ -93,6 +93,7 @@ with_node_in_order names node tree h =
         ap is_lt (key_cmp-IsTotalOrder.trans (key_of other.names) key (key_of later.names) (less_is _ h) (turned key (key_of later.names) k))) tree)
 
 changed_in_order : (change : Change) (tree : Tree) → is_in_order tree ≡ true → is_in_order (changed change tree) ≡ true
+changed_in_order (Put names (File meta)) tree h = with_node_in_order names (File meta) (without (key_of names) tree) (order_kept _ tree h)
 changed_in_order (Put names (Folder id)) tree h = with_node_in_order names (Folder id) tree h
 changed_in_order (Put names (Mount id ns)) tree h = with_node_in_order names (Mount id ns) tree h
 changed_in_order (Gone names) tree h = order_kept _ tree h

@@ -1,5 +1,5 @@
 -- The content of a file: the blocks that its hash is made of, and the pieces that hold it.
-use Rattle.std.specs.Prelude.{◌≡◌, ℕ, zero, suc, ◌+◌, ◌*◌, ◌/◌, ◌<◌, ◌≤◌, List, [], ◌∷◌, ◌++◌, length, take, drop}
+use Rattle.std.specs.Prelude.{◌≡◌, ℕ, zero, suc, ◌+◌, ◌*◌, ◌/◌, ◌<◌, ◌≤◌, ◌==◌, ◌&&◌, Bool, true, nat_le, nat_lt, List, [], ◌∷◌, ◌++◌, length, take, drop}
 use Rattle.std.specs.List.{flat_map}
 use Rattle.sha2.specs.Sha256.{sha256}
 use Rattle.fh_model.specs.declared.limits.TheConstants.{BLOCK_BYTES}
@@ -57,6 +57,17 @@ abbrev pub AreBlocks : List Piece → Type 0
 AreBlocks [] = Unit {0}
 AreBlocks (piece ∷ []) = (0 < piece.len) × (piece.len ≤ BLOCK_BYTES)
 AreBlocks (piece ∷ next ∷ pieces) = (piece.len ≡ BLOCK_BYTES) × AreBlocks (next ∷ pieces)
+
+-- the same as a test
+abbrev pub are_blocks : List Piece → Bool
+are_blocks [] = true
+are_blocks (piece ∷ []) = nat_lt 0 piece.len && nat_le piece.len BLOCK_BYTES
+are_blocks (piece ∷ next ∷ pieces) = (piece.len == BLOCK_BYTES) && are_blocks (next ∷ pieces)
+
+-- how many bytes pieces have together
+abbrev pub size_of : List Piece → ℕ
+size_of [] = 0
+size_of (piece ∷ pieces) = piece.len + size_of pieces
 
 -- the digest of the joined digests of pieces
 abbrev pub hash_of : List Piece → List ℕ

@@ -4,7 +4,7 @@ use Rattle.std.specs.List.{filter_map, list_any}
 use Rattle.std.specs.Option.{option_map}
 use Rattle.fh_model.specs.declared.changes.Item.{Item}
 use Rattle.fh_model.specs.declared.changes.Node.{Node}
-use Rattle.fh_model.specs.declared.changes.Node.TheVariants.{Folder, Mount}
+use Rattle.fh_model.specs.declared.changes.Node.TheVariants.{File, Folder, Mount}
 use Rattle.fh_model.specs.declared.names.Name.{Name}
 use Rattle.fh_model.specs.declared.paths.PathArg.{PathArg}
 use Rattle.fh_model.specs.declared.paths.PathArg.TheVariants.{Names, Id, Rev, Ns}
@@ -43,6 +43,7 @@ is_below_file tree names = list_any (λ item. is_file item.node && is_under (key
 
 -- names from the root of a namespace that lead over a node there, whose own names are these
 abbrev pub place_over : ℕ → List Name → List Name → Node → Place
+place_over number names above (File meta) = record { ns = number; names = names }
 place_over number names above (Folder id) = record { ns = number; names = names }
 place_over number names above (Mount id ns) = record { ns = ns; names = drop (length above) names }
 

@@ -8,7 +8,7 @@ use Rattle.fh_model.specs.declared.state.User.{User}
 use Rattle.fh_model.specs.RowRules.{counters_in, first_bad}
 use Rattle.fh_model.specs.State.{State, length_of}
 
--- ---- the rows of a state, but for those of its trees, changes, sessions and drafts
+-- ---- the rows of a state, but for those of its trees, changes, revisions and sessions
 
 abbrev pub counters_row : State → Row
 counters_row s = row.Counters s.next.rev s.next.id s.next.session s.next.user s.next.namespace s.moment
@@ -39,7 +39,7 @@ namespaces_in (_ ∷ rows) = namespaces_in rows
 abbrev pub counted : List Row → Option (Next × ℕ) → Result State ℕ
 counted rows None = Err (length rows)
 counted rows (Some counters) =
-    Ok (record { users = users_in rows; namespaces = namespaces_in rows; next = counters.0; moment = counters.1 })
+    Ok (record { users = users_in rows; namespaces = namespaces_in rows; revisions = []; sessions = []; next = counters.0; moment = counters.1 })
 
 abbrev pub unless_bad : Option ℕ → Result State ℕ → Result State ℕ
 unless_bad None read = read

@@ -4,6 +4,9 @@ use Rattle.std.specs.List.{list_any}
 use Rattle.std.specs.Option.{option_map}
 use Rattle.std.specs.Str.{bytes_eq}
 use Rattle.fh_model.specs.declared.changes.Change.{Change}
+use Rattle.fh_model.specs.declared.files.FileMeta.{FileMeta}
+use Rattle.fh_model.specs.declared.files.Revision.{Revision}
+use Rattle.fh_model.specs.declared.sessions.Session.{Session}
 use Rattle.fh_model.specs.declared.state.Namespace.{Namespace}
 use Rattle.fh_model.specs.declared.state.Next.{Next}
 use Rattle.fh_model.specs.declared.state.User.{User}
@@ -12,6 +15,10 @@ use Rattle.fh_model.specs.Trees.{Tree, tree_of}
 pub record State : Type 0 where
   pub users : List User
   pub namespaces : List Namespace
+  -- each version of a file that was ever put, in the order of their revs
+  pub revisions : List Revision
+  -- data that is of no file yet, in the order of the sessions' numbers
+  pub sessions : List Session
   -- the next number of each kind
   pub next : Next
   -- the second of the last command that was accepted, or a later one that it came after
@@ -22,6 +29,8 @@ abbrev pub opening : State
 opening = record {
   users = record { number = 1; home = 1; token = None } ∷ [];
   namespaces = record { number = 1; shared = false; floor = 0; changes = []; members = [] } ∷ [];
+  revisions = [];
+  sessions = [];
   next = record { rev = 1; id = 1; session = 1; user = 2; namespace = 2 };
   moment = 0;
 }
@@ -43,6 +52,13 @@ token_user s text = option_map (λ user. user.number) (find (has_token text) s.u
 -- the number of a user's home
 abbrev pub home_of : State → ℕ → Option ℕ
 home_of s number = option_map (λ user. user.home) (user_of s number)
+
+-- the version of a file with this rev, with the place at which it was put
+abbrev pub revision_of : State → ℕ → Option Revision
+revision_of s rev = find (λ kept. kept.file.rev == rev) s.revisions
+
+abbrev pub meta_of : State → ℕ → Option FileMeta
+meta_of s rev = option_map (λ kept. kept.file) (revision_of s rev)
 
 abbrev pub tree_or_none : Option Namespace → Tree
 tree_or_none None = []
@@ -72,6 +88,9 @@ next_is_spent next = nat_le spent_at next.rev || (nat_le spent_at next.id || (na
 abbrev pub space_is_spent : Namespace → Bool
 space_is_spent space = nat_le spent_at (length_of space) || nat_le (2 ^ 31) (length space.members)
 
--- a counter, a namespace's length or a list of members has come to its end
+abbrev pub session_is_spent : Session → Bool
+session_is_spent session = nat_le (2 ^ 31) (length session.pieces)
+
+-- a counter, a namespace's length, a list of members or the pieces of a session have come to their end
 abbrev pub is_spent : State → Bool
-is_spent s = next_is_spent s.next || list_any space_is_spent s.namespaces
+is_spent s = next_is_spent s.next || (list_any space_is_spent s.namespaces || list_any session_is_spent s.sessions)

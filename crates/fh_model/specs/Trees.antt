@@ -5,7 +5,7 @@ use Rattle.fh_model.specs.declared.changes.Change.{Change}
 use Rattle.fh_model.specs.declared.changes.Change.TheVariants.{Put, Gone}
 use Rattle.fh_model.specs.declared.changes.Item.{Item}
 use Rattle.fh_model.specs.declared.changes.Node.{Node}
-use Rattle.fh_model.specs.declared.changes.Node.TheVariants.{Folder, Mount}
+use Rattle.fh_model.specs.declared.changes.Node.TheVariants.{File, Folder, Mount}
 use Rattle.fh_model.specs.declared.names.Name.{Name}
 use Rattle.fh_model.specs.declared.state.Namespace.{Namespace}
 use Rattle.fh_model.specs.KeyOrder.{key_cmp, is_under}
@@ -34,8 +34,9 @@ with_node names node tree = before (key_of names) tree ++ record { names = names
 abbrev pub without : Key → Tree → Tree
 without key tree = filter (λ item. not (has_key item.names key || is_under (key_of item.names) key)) tree
 
--- A folder or a mount point leaves what stands under it.
+-- A folder or a mount point leaves what stands under it. A file takes it away.
 abbrev pub changed : Change → Tree → Tree
+changed (Put names (File meta)) tree = with_node names (File meta) (without (key_of names) tree)
 changed (Put names (Folder id)) tree = with_node names (Folder id) tree
 changed (Put names (Mount id ns)) tree = with_node names (Mount id ns) tree
 changed (Gone names) tree = without (key_of names) tree

@@ -1,8 +1,9 @@
-use crate::{Copies, Items, Names, NoMemory};
+use crate::{Copies, FileMeta, Items, Names, NoMemory};
 
 /// What stands at a place of a tree.
 #[derive(Debug, Drop)]
 pub enum Node {
+    File(FileMeta),
     Folder { id: u64 },
 
     /// A point of a home at which the namespace `ns` is mounted.
@@ -12,7 +13,7 @@ pub enum Node {
 /// One change of a namespace's tree.
 #[derive(Debug, Drop)]
 pub enum Change {
-    /// The node stands at the names from now on.
+    /// The node stands at the names from now on. A file takes all under it away.
     Put { names: Names, node: Node },
 
     /// Nothing stands at the names or under them any more.
@@ -32,6 +33,10 @@ pub struct Item {
 impl Copies for Node {
     fn copy(&self) -> Result<Node, NoMemory> {
         match self {
+            Node::File(meta) => {
+                let meta = meta.copy()?;
+                Ok(Node::File(meta))
+            }
             Node::Folder { id } => Ok(Node::Folder { id: *id }),
             Node::Mount { id, ns } => Ok(Node::Mount { id: *id, ns: *ns }),
         }

@@ -6,6 +6,7 @@
 
 mod changes;
 mod commands;
+mod files;
 mod items;
 mod keys;
 mod limits;
@@ -15,11 +16,14 @@ mod paths;
 mod pieces;
 mod replies;
 mod rows;
+mod sessions;
 mod state;
 mod text;
+mod verdicts;
 
 pub use changes::{Change, Changes, Item, Node};
-pub use commands::{Act, Cmd};
+pub use commands::{Act, Cmd, Commit, Mode};
+pub use files::{FileMeta, Revision};
 pub use items::{Copies, Items, copy_all};
 pub use keys::Key;
 pub use limits::{
@@ -32,8 +36,10 @@ pub use paths::{Found, PathArg, Place};
 pub use pieces::{Bytes32, Piece, Pieces};
 pub use replies::{Entry, Refusal, Reply};
 pub use rows::{Members, Row};
+pub use sessions::{BlockPiece, BlockPieces, Session};
 pub use state::{Namespace, Next, User};
 pub use text::Text;
+pub use verdicts::{Kind, Verdict};
 
 #[cfg(test)]
 mod tests;

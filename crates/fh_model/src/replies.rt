@@ -1,8 +1,9 @@
-use crate::{Names, Tags};
+use crate::{FileMeta, Names, Tags};
 
 /// What a client is told of a place, with the names of the user's view.
 #[derive(Debug, Drop)]
 pub enum Entry {
+    File { names: Names, meta: FileMeta },
     Folder { names: Names, id: u64 },
 }
 
@@ -10,7 +11,11 @@ pub enum Entry {
 #[derive(Debug, Drop)]
 pub struct Refusal {
     pub tags: Tags,
+
+    /// The session that keeps the data of an upload.
     pub session: Option<u64>,
+
+    /// The offset that would have been right.
     pub offset: Option<u64>,
 }
 

@@ -14,6 +14,7 @@ mod reading;
 
 pub use fault::PathFault;
 pub use folding::fold;
+pub use numbers::{is_lower_hex, revision};
 pub use reading::parse;
 
 #[cfg(test)]

@@ -7,7 +7,8 @@ ghost use Rattle.fh_model.specs.PathRule.{is_lower_hex, is_bad_revision, is_bad_
 
 use fh_model::{ID_DIGITS, NAMESPACE_MAX_DIGITS, REV_MIN_DIGITS};
 
-fn is_lower_hex(text: &str) -> bool
+/// Whether each character is a digit or one of `a` to `f`.
+pub fn is_lower_hex(text: &str) -> bool
     ensures { result ≡ list_all is_lower_hex text.now }
 {
     text.as_bytes()
@@ -31,8 +32,8 @@ pub(crate) fn number_of(text: &str) -> u64
     u64::from_str_radix(text, 16).unwrap_or(0)
 }
 
-/// The number of a revision, where what stands behind `rev:` may stand there.
-pub(crate) fn revision(digits: &str) -> Option<u64>
+/// The number of a revision, where these digits may stand behind `rev:`: 9 or more, of which any number but 16 write 0.
+pub fn revision(digits: &str) -> Option<u64>
     ensures { MatchOption result (is_bad_revision digits.now ≡ true) (λ number. (is_bad_revision digits.now ≡ false) × (number ≡ number_of digits.now)) }
 {
     if digits.len() < REV_MIN_DIGITS || !is_lower_hex(digits) {

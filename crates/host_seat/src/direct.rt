@@ -1,7 +1,7 @@
 ghost use Rattle.std.specs.Prelude.{◌≡◌, [], List, Option};
 ghost use Rattle.fh_world.specs.Causes.{Rose};
 
-use crate::{CommitFault, Port, View};
+use crate::{CommitFault, FetchFault, Port, View};
 use fh_model::{Act, Cmd, NoMemory, Reply};
 use fh_world::Disk;
 use name_core::Image;
@@ -36,7 +36,8 @@ impl<D: Disk> Direct<D> {
 
 impl<D: Disk> View for Direct<D> {
     ghost use Rattle.std.specs.Prelude.{true};
-    ghost use Rattle.host_seat.specs.Direct.{Ran, waiting_in};
+    ghost use Rattle.fh_world.specs.declared.FileNo.TheVariants.{Blocks};
+    ghost use Rattle.host_seat.specs.Direct.{Ran, told_by, waiting_in};
     ghost use Rattle.host_seat.specs.RunLaws.{ran_nothing, ran_on};
 
     ghost went = { λ old new. Ran D.Disk old.store new.store };
@@ -44,6 +45,8 @@ impl<D: Disk> View for Direct<D> {
     ghost seen = { λ direct. direct.store.image };
 
     ghost waits = { λ direct. waiting_in direct.store.waiting };
+
+    ghost blocks = { λ direct. told_by D.tells (D.seen direct.store.disk Blocks) };
 
     ghost number = { λ _. 1 };
 
@@ -77,6 +80,16 @@ impl<D: Disk> Port for Direct<D> {
             Ok(reply) => Ok(reply),
             Err(store_core::CommitFault::Disk) => Err(CommitFault::Disk),
             Err(store_core::CommitFault::NoMemory) => Err(CommitFault::NoMemory),
+        }
+    }
+    /// The block is read from the disk, also where a command waits.
+    fn fetch(&mut self, rev: u64, block: u32) -> Result<Vec<u8>, FetchFault> {
+        match self.store.fetch(rev, block) {
+            Ok(bytes) => Ok(bytes),
+            Err(store_core::FetchFault::NoRev) => Err(FetchFault::NoRev),
+            Err(store_core::FetchFault::NoBlock) => Err(FetchFault::NoBlock),
+            Err(store_core::FetchFault::Disk) => Err(FetchFault::Disk),
+            Err(store_core::FetchFault::NoMemory) => Err(FetchFault::NoMemory),
         }
     }
 }

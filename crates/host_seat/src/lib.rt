@@ -11,5 +11,5 @@ mod port;
 mod view;
 
 pub use direct::Direct;
-pub use port::{CommitFault, Port};
+pub use port::{CommitFault, FetchFault, Port};
 pub use view::View;

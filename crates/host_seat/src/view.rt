@@ -1,4 +1,4 @@
-ghost use Rattle.std.specs.Prelude.{◌≡◌, ℕ, List, Bool, IfOk, OnErr};
+ghost use Rattle.std.specs.Prelude.{◌≡◌, ℕ, List, Option, Bool, IfOk, OnErr};
 ghost use Rattle.fh_model.specs.declared.commands.Cmd.{Cmd};
 ghost use Rattle.fh_model.specs.History.{Kept};
 ghost use Rattle.host_seat.specs.Port.{Looks, OthersEnter};
@@ -17,6 +17,9 @@ pub trait View {
     /// The command that waits for the disk, if any.
     ghost waits: { Self → List Cmd };
 
+    /// What the block file holds, where it is told.
+    ghost blocks: { Self → Option (List ℕ) };
+
     /// The seat's number, which its commands carry.
     ghost number: { Self → ℕ };
 
@@ -32,6 +35,7 @@ pub trait View {
         ensures point { IfOk result (λ image. Looks alone (seen self.old) (seen self.new) image) }
         ensures memory { OnErr result (OthersEnter alone (seen self.old) (seen self.new)) }
         ensures waits { waits self.new ≡ waits self.old }
+        ensures blocks { blocks self.new ≡ blocks self.old }
         ensures number { number self.new ≡ number self.old }
         ensures faults { faults self.new ≡ faults self.old }
         ensures went { went self.old self.new };

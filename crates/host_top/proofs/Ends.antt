@@ -1,111 +1,234 @@
 -- How a run of `pipe` and its status follow from the opening of the store and from the connection.
-use Rattle.std.proofs.Common.{◌≡◌, ◌⊎◌, ℕ, ◌<◌, ◌≤◌, List, [], Option, None, Some, ◌∙◌, ap, sym, refl, subst, inl, inr, arith, true, IsTrue}
+use Rattle.std.proofs.Common.{◌≡◌, ◌⊎◌, ℕ, ◌+◌, ◌<◌, ◌≤◌, List, [], ◌++◌, length, Bool, Option, None, Some, Result, Ok, Err, ◌∙◌, ap, sym, refl, subst, append-nil, inl, inr, arith, true, false, IsTrue, take}
 use Rattle.fh_world.specs.Bytes.{Moves}
 use Rattle.fh_world.specs.Causes.{Rose}
 use Rattle.fh_world.specs.Disk.{Files, LeavesOnly}
 use Rattle.fh_world.specs.declared.Disk as disk
 use Rattle.fh_world.specs.declared.FileNo.{FileNo}
+use Rattle.fh_world.specs.declared.FileNo.TheVariants as file
 use Rattle.fh_world.specs.declared.source.Source as source
 use Rattle.fh_world.specs.declared.sink.Sink as sink
 use Rattle.fh_world.proofs.Moments.{started, joined, weaker}
 use Rattle.fh_model.specs.declared.commands.Cmd.{Cmd}
-use Rattle.fh_model.specs.History.{Kept, Follows}
-use Rattle.fh_model.specs.State.{State}
-use Rattle.host_seat.specs.Direct.{Between, Ran}
+use Rattle.fh_model.specs.History.{state_of, state_after, with_more, Kept, Follows}
+use Rattle.fh_model.specs.Pieces.{AreHeld, SamePieces, end_in}
+use Rattle.fh_model.specs.State.{State, opening}
+use Rattle.gate_journal.specs.Slot.{Found, Held, Broken, found}
+use Rattle.host_seat.specs.Direct.{told_by, Between, Ran}
+use Rattle.host_seat.specs.Port.{KeepsPieces, OfBoth}
 use Rattle.host_seat.specs.RunLaws.{follows_same, follows_more, follows_waiting}
 use Rattle.http_in.specs.Heads.{IsOpenTarget}
-use Rattle.session_rules.specs.Connection.{Turn}
-use Rattle.session_http.specs.Ends.{EndsBy, IsStopped, Served}
+use Rattle.session_rules.specs.Connection.{IsStored, blocks_behind, gained}
+use Rattle.session_http.specs.Ends.{Served}
 use Rattle.session_http.specs.Spell.{Spells}
-use Rattle.session_http.specs.Talk.{Terms, Moment, terms}
+use Rattle.session_http.specs.Talk.{Terms, Moment, terms, first, desk, added}
 use Rattle.session_http.specs.declared.conn.ConnEnd.{ConnEnd}
 use Rattle.session_http.specs.declared.conn.ConnEnd.TheVariants as end
-use Rattle.session_http.proofs.Callers.{with_nothing}
+use Rattle.fh_model.proofs.Runs.{state_more, with_nothing}
 use Rattle.session_http.proofs.Complete.{complete}
-use Rattle.session_http.proofs.Serves.{serve_none}
-use Rattle.session_http.proofs.Talks.{known_none, known_nothing, rose_since}
-use Rattle.store_core.specs.Files.{Contents, New, NotAStore, Damaged, Stored, contents, Stands, StandsOrNew, KeepsMeaning}
+use Rattle.session_http.proofs.Callers.{keeps_same}
+use Rattle.session_http.proofs.Serves.{SoFar, serve_none, served_on}
+use Rattle.session_http.proofs.Talks.{all_alone, below_nothing, known_none, known_nothing, stored_idle, talk_starts}
+use Rattle.store_core.specs.Bodies.{at_place, read_bodies, read_found}
+use Rattle.store_core.specs.Files.{Contents, New, NotAStore, Damaged, Stored, by_head, contents, of_slot, Stands, StandsOrNew, KeepsMeaning}
+use Rattle.store_core.specs.Head.{head_in}
 use Rattle.store_core.specs.Open.{IsSaid, LeavesMeaning}
 use Rattle.store_core.specs.Store.{Opened, IsKept, with_waiting, finished}
+use Rattle.store_core.specs.declared.head.HeadRead.{HeadRead}
+use Rattle.store_core.specs.declared.head.HeadRead.TheVariants as head
 use Rattle.store_core.specs.declared.faults.StoreFault.{StoreFault}
 use Rattle.store_core.specs.declared.faults.StoreFault.TheVariants as fault
-use Rattle.host_top.specs.Pipe.{PipeServed, PipeRefused, PipeRan, StoreServed, TellsContents, LeavesPrefix, EndsSo, opened, alone_with, refused_as}
+use Rattle.store_core.proofs.BodyLemmas.{stand_end}
+use Rattle.host_top.specs.Pipe.{KeepsContents, PipeServed, PipeRefused, PipeRan, StoreServed, TellsContents, LeavesPrefix, EndsSo, opened, alone_with, desk_of, refused_as}
 use Rattle.host_top.specs.Status.{status_of, refusal_of}
+use Rattle.host_top.proofs.Contents.{still_held, still_there}
 use Rattle.host_top.specs.declared.status.Status.{Status}
 use Rattle.host_top.specs.declared.status.Status.TheVariants as status
 
--- ---- a connection told from an earlier count of the port's faults
+-- ---- a connection told from an earlier moment of its disk
 
-stopped_earlier : (t : Terms) (before now : Moment) (faults : ℕ) (answered : List Turn) (behind : List Cmd) (rest part : List ℕ)
-    → IsStopped t before now answered behind rest part → IsStopped t (record before { port_faults = faults }) now answered behind rest part
-stopped_earlier t before now faults answered behind rest part h = record {
-  turn = h.turn;
-  act = h.act;
-  after = h.after;
-  begins = h.begins;
-  is = h.is;
-  entered = h.entered;
-  wanted = h.wanted;
-  wrote = h.wrote;
-  left = h.left;
-}
+none_on : (n : ℕ) → n ≡ n + 0
+none_on n = omega arith
 
-ends_earlier : (e : ConnEnd) (t : Terms) (before now : Moment) (faults : ℕ) → faults ≤ before.port_faults → (answered broken : List Turn) (behind : List Cmd) (rest part : List ℕ)
-    → EndsBy e t before now answered broken behind rest part → EndsBy e t (record before { port_faults = faults }) now answered broken behind rest part
-ends_earlier end.DiskFault t before now faults le answered broken behind rest part h =
-    (h.0, stopped_earlier t before now faults answered behind rest part h.1, rose_since faults before.port_faults now.port_faults le h.2)
-ends_earlier end.Ended t before now faults le answered broken behind rest part h = h
-ends_earlier end.Cut t before now faults le answered broken behind rest part h = h
-ends_earlier end.Bad t before now faults le answered broken behind rest part h = h
-ends_earlier end.ReadFault t before now faults le answered broken behind rest part h = h
-ends_earlier end.WriteFault t before now faults le answered broken behind rest part h = h
-ends_earlier end.NoMemory t before now faults le answered broken behind rest part h = h
-ends_earlier end.Spent t before now faults le answered broken behind rest part h = h
+-- nothing was read, written or let in since, and the pieces of the state kept their bytes
+opened_since : (t : Terms) (before : Moment) (faults : ℕ) (blocks : Option (List ℕ)) → faults ≤ before.port_faults
+    → (IsTrue t.alone → KeepsPieces (first before) blocks before.blocks) → SoFar t (record before { port_faults = faults; blocks = blocks }) before
+opened_since t before faults blocks le keeps =
+    let none = talk_starts t before in
+    record {
+      turns = [];
+      talk = record {
+        bytes = none.bytes;
+        begins = none.begins;
+        gave = none.gave;
+        took = none.took;
+        wrote = none.wrote;
+        history = none.history;
+        number = none.number;
+        each = none.each;
+      };
+      stored = stored_idle t (record before { port_faults = faults; blocks = blocks }) before keeps;
+      whole = λ k d h. absurd (below_nothing k h);
+      counted = none_on before.count;
+      waits = inl refl;
+      going = λ k d h. absurd (below_nothing k h);
+      port_later = le;
+      read_later = omega arith;
+      write_later = omega arith;
+    }
 
-served_earlier : (e : ConnEnd) (t : Terms) (before now : Moment) (faults : ℕ) → faults ≤ before.port_faults → Served t before now e
-    → Served t (record before { port_faults = faults }) now e
-served_earlier e t before now faults le h = record {
-  answered = h.answered;
-  broken = h.broken;
-  behind = h.behind;
-  rest = h.rest;
-  part = h.part;
-  talk = record {
-    bytes = h.talk.bytes;
-    begins = h.talk.begins;
-    gave = h.talk.gave;
-    took = h.talk.took;
-    wrote = h.talk.wrote;
-    history = h.talk.history;
-    number = h.talk.number;
-    each = h.talk.each;
-  };
-  one = h.one;
-  few = h.few;
-  going = h.going;
-  mine = h.mine;
-  waits = h.waits;
-  ends = ends_earlier e t before now faults le h.answered h.broken h.behind h.rest h.part h.ends;
-}
+served_earlier : (e : ConnEnd) (t : Terms) (before now : Moment) (faults : ℕ) (blocks : Option (List ℕ)) → faults ≤ before.port_faults
+    → (IsTrue t.alone → KeepsPieces (first before) blocks before.blocks) → Served t before now e → Served t (record before { port_faults = faults; blocks = blocks }) now e
+served_earlier e t before now faults blocks le keeps h =
+    served_on t (record before { port_faults = faults; blocks = blocks }) before now (opened_since t before faults blocks le keeps) e h
+
+-- ---- the block file, where the disk tells it
+
+both_told : (P : List ℕ → List ℕ → Type 0) (tells : Bool) (x y : List ℕ) → (IsTrue tells → P x y) → OfBoth P (told_by tells x) (told_by tells y)
+both_told P true x y is = is refl
+both_told P false x y is = tt
+
+both_are : (P : List ℕ → List ℕ → Type 0) (tells : Bool) (x y : List ℕ) → OfBoth P (told_by tells x) (told_by tells y) → IsTrue tells → P x y
+both_are P true x y both told = both
+both_are P false x y both told = cc
+
+pair_is : {A B : Type 0} (p : A × B) (a : A) (b : B) → p.0 ≡ a → p.1 ≡ b → p ≡ (a, b)
+pair_is p a b e f = ap (λ x. (x, p.1)) e ∙ ap (λ y. (a, y)) f
+
+stored_is : (read : State × List Cmd) (start : State) (commands : List Cmd) → Stored read.0 read.1 ≡ Stored start commands → read ≡ (start, commands)
+stored_is read start commands is =
+    let one : read.0 ≡ start = cc in
+    let two : read.1 ≡ commands = cc in
+    pair_is read start commands one two
+
+-- what is read of records lies within the block file
+read_lies : (len : ℕ) (bodies : List (List ℕ)) (start : State) (commands : List Cmd) (read : Result (State × List Cmd) ℕ) → read_bodies len bodies ≡ read
+    → of_slot (at_place bodies read) ≡ Stored start commands → end_in (state_after start commands) ≤ len
+read_lies len bodies start commands (Ok read) e is =
+    let P : State × List Cmd → Type 0 = λ r. read_bodies len bodies ≡ Ok r in
+    stand_end len bodies (state_after start commands) (record {
+      start = start;
+      commands = commands;
+      read = subst P (stored_is read start commands is) e;
+      after = refl;
+    })
+read_lies len bodies start commands (Err i) e is = cc
+
+-- and what is read of a slot
+slot_lies : (len : ℕ) (found : Found) (start : State) (commands : List Cmd) → of_slot (read_found len found) ≡ Stored start commands → end_in (state_after start commands) ≤ len
+slot_lies len (Broken place) start commands is = cc
+slot_lies len (Held bodies) start commands is = read_lies len bodies start commands (read_bodies len bodies) refl is
+
+head_lies : (h : HeadRead) (files : Files) (start : State) (commands : List Cmd) → by_head h files ≡ Stored start commands → end_in (state_after start commands) ≤ length (files file.Blocks)
+head_lies head.New files start commands is = cc
+head_lies (head.NotAStore place) files start commands is = cc
+head_lies (head.Names slot) files start commands is = slot_lies (length (files file.Blocks)) (found (files slot)) start commands is
+
+-- the pieces of the state that the files stand for lie in the block file
+stands_within : (files : Files) (start : State) → StandsOrNew files start → end_in start ≤ length (files file.Blocks)
+stands_within files start (inl stands) =
+    subst (λ (s : State). end_in s ≤ length (files file.Blocks)) stands.after (head_lies (head_in (files file.Head)) files stands.start stands.commands stands.stored)
+stands_within files start (inr new) = subst (λ (s : State). end_in s ≤ length (files file.Blocks)) (sym new.1) (omega arith)
 
 -- ---- what a crash leaves between the opening and the end
 
 new_or_stored : (found : Contents) (start : State) (commands : List Cmd) → found ≡ New → found ≡ Stored start commands → ⊥
 new_or_stored found start commands new stored = cc
 
+-- the state of a new store has no pieces
+no_pieces : (blocks others : List ℕ) → SamePieces opening blocks others
+no_pieces blocks others = refl
+
 -- a crash while the store is opened leaves it at its start, or new where it was new
-opening_leaves : (may_old : FileNo → List ℕ → Type 0) (seen : Files) (start : State) (last : Kept) → StandsOrNew seen start → Follows last (opened start)
-    → (files : Files) → LeavesMeaning may_old seen files → LeavesPrefix may_old seen (opened start) last files
-opening_leaves may_old seen start last from follows files (inl before) = inl before
-opening_leaves may_old seen start last (inl stands) follows files (inr (inl same)) =
-    inr (inr (opened start, follows_same (opened start), follows, record { start = stands.start; commands = stands.commands; stored = same ∙ stands.stored; after = stands.after }))
-opening_leaves may_old seen start last (inr new) follows files (inr (inl same)) = inr (inl (same ∙ new.0, new.0))
-opening_leaves may_old seen start last (inl stands) follows files (inr (inr made)) = absurd (new_or_stored (contents seen) stands.start stands.commands made.0 stands.stored)
-opening_leaves may_old seen start last (inr new) follows files (inr (inr made)) =
-    inr (inr (opened start, follows_same (opened start), follows, subst (λ (s : State). Stands files s) (sym new.1) made.1))
+opening_leaves : (may_old : FileNo → List ℕ → Type 0) (seen : Files) (start : State) (last : Kept) (blocks : List ℕ) → StandsOrNew seen start
+    → SamePieces start blocks (seen file.Blocks) → Follows last (opened start)
+    → (files : Files) → LeavesMeaning may_old seen files → LeavesPrefix may_old seen (opened start) last blocks files
+opening_leaves may_old seen start last blocks from kept follows files (inl before) = inl before
+opening_leaves may_old seen start last blocks (inl stands) kept follows files (inr (inl same)) =
+    inr (inr (
+      opened start,
+      follows_same (opened start),
+      follows,
+      record {
+        start = stands.start;
+        commands = stands.commands;
+        stored = same.0 ∙ stands.stored;
+        after = stands.after;
+        same = ap (take (end_in start)) same.1 ∙ sym kept;
+      },
+    ))
+opening_leaves may_old seen start last blocks (inr new) kept follows files (inr (inl same)) = inr (inl (same.0 ∙ new.0, new.0))
+opening_leaves may_old seen start last blocks (inl stands) kept follows files (inr (inr made)) =
+    absurd (new_or_stored (contents seen) stands.start stands.commands made.0 stands.stored)
+opening_leaves may_old seen start last blocks (inr new) kept follows files (inr (inr (was, inl none))) = inr (inl (none, was))
+opening_leaves may_old seen start last blocks (inr new) kept follows files (inr (inr (was, inr made))) =
+    let P : State → Type 0 = λ s. Stands files s blocks in
+    inr (inr (
+      opened start,
+      follows_same (opened start),
+      follows,
+      subst P (sym new.1) (record {
+        start = made.start;
+        commands = made.commands;
+        stored = made.stored;
+        after = made.after;
+        same = no_pieces (files file.Blocks) blocks;
+      }),
+    ))
+
+-- what a run kept of the block file since the store was opened it kept since the call began
+kept_since : (seen now : Files) (start : State) (blocks : List ℕ) → StandsOrNew seen start → KeepsMeaning seen now → SamePieces start blocks (now file.Blocks)
+    → SamePieces start blocks (seen file.Blocks)
+kept_since seen now start blocks (inl stands) (inl same) kept = kept ∙ ap (take (end_in start)) same.1
+kept_since seen now start blocks (inl stands) (inr made) kept = absurd (new_or_stored (contents seen) stands.start stands.commands made.0 stands.stored)
+kept_since seen now start blocks (inr new) meaning kept =
+    let P : State → Type 0 = λ s. SamePieces s blocks (seen file.Blocks) in
+    subst P (sym new.1) (no_pieces blocks (seen file.Blocks))
+
+-- so it did as the store was opened
+opened_same : (seen now : Files) (start : State) → StandsOrNew seen start → KeepsMeaning seen now → SamePieces start (now file.Blocks) (seen file.Blocks)
+opened_same seen now start from meaning = kept_since seen now start (now file.Blocks) from meaning refl
 
 is_opened : (kept : Kept) → kept.history ≡ [] → kept ≡ opened kept.start
 is_opened kept none = ap (λ (h : List Cmd). record { start = kept.start; history = h }) none
+
+-- ---- the contents
+
+-- the machine behind the requests is the one that is kept
+kept_behind : (t : Terms) (before now : Moment) (e : ConnEnd) (served : Served t before now e) → IsTrue t.alone
+    → state_of now.seen ≡ state_after (first before) (gained (desk t before) (first before) (served.answered ++ served.broken))
+kept_behind t before now e served alone =
+    let turns = served.answered ++ served.broken in
+    ap state_of served.talk.history
+    ∙ ap (λ (l : List Cmd). state_of (with_more before.seen (added t before turns ++ l))) (served.mine alone)
+    ∙ ap (λ (l : List Cmd). state_of (with_more before.seen l)) (append-nil (added t before turns))
+    ∙ state_more before.seen (added t before turns)
+
+module _ {D S K : Type 0} (of_disk : disk.Ghosts D) (of_source : source.Ghosts S) (of_sink : sink.Ghosts K) (second : Option ℕ) (admin : List ℕ)
+    (disk_old disk_new : D) (s t : S) (k l : K) (start : State) (kept : Kept) (waiting : Option Cmd) (count : ℕ) (unread : List ℕ) (e : ConnEnd) where
+  keeps_contents : IsTrue of_disk.tells → StandsOrNew (of_disk.seen disk_old) start
+      → (served : Served (terms true second admin) (alone_with of_disk of_source of_sink (opened start) None disk_old s k 0 [])
+      (alone_with of_disk of_source of_sink kept waiting disk_new t l count unread) e)
+      → KeepsContents admin start kept (served.answered ++ served.broken) (of_disk.seen disk_old file.Blocks) (of_disk.seen disk_new file.Blocks)
+  keeps_contents told from served =
+      let before : Moment = alone_with of_disk of_source of_sink (opened start) None disk_old s k 0 [] in
+      let now : Moment = alone_with of_disk of_source of_sink kept waiting disk_new t l count unread in
+      let turns = served.answered ++ served.broken in
+      let x = of_disk.seen disk_old file.Blocks in
+      let y = of_disk.seen disk_new file.Blocks in
+      let within = stands_within (of_disk.seen disk_old) start from in
+      let stored : IsStored (desk_of admin) start turns x y = both_are (IsStored (desk_of admin) start turns) of_disk.tells x y (served.stored.blocks refl) told in
+      let P : State → Type 0 = λ z. SamePieces z y (blocks_behind (desk_of admin) start x turns) in
+      let Q : State → Type 0 = λ z. AreHeld z y in
+      let behind = sym (kept_behind (terms true second admin) before now e served refl) in
+      let alone = all_alone (terms true second admin) turns served.talk.each refl in
+      record {
+        within = within;
+        same = subst P behind (stored within).0;
+        shown = (stored within).1;
+        still = still_there (desk_of admin) start turns x y alone served.stored.sends within (stored within).0 (stored within).1;
+        held = λ held. subst Q behind (still_held (desk_of admin) start turns x y alone within (stored within).0 held);
+      }
 
 module _ {D S K : Type 0} (of_disk : disk.Ghosts D) (of_source : source.Ghosts S) (of_sink : sink.Ghosts K) (second : Option ℕ) (admin : List ℕ)
     (disk_old : D) (s t : S) (k l : K) (result : Status) where
@@ -113,21 +236,31 @@ module _ {D S K : Type 0} (of_disk : disk.Ghosts D) (of_source : source.Ghosts S
   pub pipe_served : (old new : Opened D) → (old.image.history ≡ []) × (old.waiting ≡ None)
       → (IsTrue of_disk.tells → StandsOrNew (of_disk.seen disk_old) old.image.start)
       → (IsTrue of_disk.tells → IsKept of_disk old)
+      → (IsTrue of_disk.tells → KeepsMeaning (of_disk.seen disk_old) (of_disk.seen old.disk))
       → (IsTrue of_disk.tells → LeavesOnly of_disk.moment of_disk.left_since disk_old old.disk (LeavesMeaning (of_disk.may_leave disk_old) (of_disk.seen disk_old)))
       → of_disk.faults disk_old ≤ of_disk.faults old.disk
       → StoreServed of_disk of_source of_sink second admin old new s t k l result
       → PipeServed of_disk of_source of_sink second admin disk_old new.disk s t k l result
-  pipe_served old new fresh from kept run later served =
+  pipe_served old new fresh from kept meaning run later served =
       let start = old.image.start in
       let is : old.image ≡ opened start = is_opened old.image fresh.0 in
       let last : Kept = with_waiting new.image new.waiting in
+      let blocks = of_disk.seen new.disk file.Blocks in
+      let same : IsTrue of_disk.tells → SamePieces start blocks (of_disk.seen disk_old file.Blocks) =
+      λ told. kept_since (of_disk.seen disk_old) (of_disk.seen old.disk) start blocks (from told) (meaning told)
+      (subst (λ (k0 : Kept). SamePieces (state_of k0) blocks (of_disk.seen old.disk file.Blocks)) (ap (with_waiting old.image) fresh.1 ∙ is) (served.ran.same told)) in
       let from_start : Follows last (opened start) =
       subst (λ (k : Kept). Follows last k) is (follows_more old.image new.image last served.ran.follows (follows_waiting new.image new.waiting)) in
-      let before : Moment = alone_with of_source of_sink (opened start) None (of_disk.faults old.disk) s k 0 [] in
-      let now : Moment = alone_with of_source of_sink new.image new.waiting (of_disk.faults new.disk) t l served.count served.unread in
+      let before : Moment = alone_with of_disk of_source of_sink (opened start) None old.disk s k 0 [] in
+      let now : Moment = alone_with of_disk of_source of_sink new.image new.waiting new.disk t l served.count served.unread in
       let from_opened : Served (terms true second admin) before now served.end =
-      subst (λ (k0 : Kept). Served (terms true second admin) (alone_with of_source of_sink k0 None (of_disk.faults old.disk) s k 0 []) now served.end) is
-      (subst (λ (w : Option Cmd). Served (terms true second admin) (alone_with of_source of_sink old.image w (of_disk.faults old.disk) s k 0 []) now served.end) fresh.1 served.served) in
+      subst (λ (k0 : Kept). Served (terms true second admin) (alone_with of_disk of_source of_sink k0 None old.disk s k 0 []) now served.end) is
+      (subst (λ (w : Option Cmd). Served (terms true second admin) (alone_with of_disk of_source of_sink old.image w old.disk s k 0 []) now served.end) fresh.1 served.served) in
+      let told_old = told_by of_disk.tells (of_disk.seen disk_old file.Blocks) in
+      let all : Served (terms true second admin) (alone_with of_disk of_source of_sink (opened start) None disk_old s k 0 []) now served.end =
+      served_earlier served.end (terms true second admin) before now (of_disk.faults disk_old) told_old later
+      (λ _. both_told (λ x y. SamePieces start y x) of_disk.tells (of_disk.seen disk_old file.Blocks) (of_disk.seen old.disk file.Blocks)
+      (λ told. opened_same (of_disk.seen disk_old) (of_disk.seen old.disk) start (from told) (meaning told))) from_opened in
       record {
         start = start;
         kept = new.image;
@@ -137,14 +270,15 @@ module _ {D S K : Type 0} (of_disk : disk.Ghosts D) (of_source : source.Ghosts S
         end = served.end;
         is = served.is;
         from = from;
-        served = served_earlier served.end (terms true second admin) before now (of_disk.faults disk_old) later from_opened;
-        crash = λ told. joined of_disk.moment of_disk.left_since disk_old old.disk new.disk (LeavesPrefix (of_disk.may_leave disk_old) (of_disk.seen disk_old) (opened start) last)
+        served = all;
+        stores = λ told. keeps_contents of_disk of_source of_sink second admin disk_old new.disk s t k l start new.image new.waiting served.count served.unread served.end told (from told) all;
+        crash = λ told. joined of_disk.moment of_disk.left_since disk_old old.disk new.disk (LeavesPrefix (of_disk.may_leave disk_old) (of_disk.seen disk_old) (opened start) last blocks)
             (weaker of_disk.moment of_disk.left_since disk_old old.disk (LeavesMeaning (of_disk.may_leave disk_old) (of_disk.seen disk_old))
-            (LeavesPrefix (of_disk.may_leave disk_old) (of_disk.seen disk_old) (opened start) last) (run told)
-            (opening_leaves (of_disk.may_leave disk_old) (of_disk.seen disk_old) start last (from told) from_start))
-            (weaker of_disk.moment of_disk.left_since old.disk new.disk (Between old.image (finished new))
-            (LeavesPrefix (of_disk.may_leave disk_old) (of_disk.seen disk_old) (opened start) last) (served.ran.crash told (kept told))
-            (λ files h. inr (inr (subst (λ (k0 : Kept). Between k0 last files) is h))));
+            (LeavesPrefix (of_disk.may_leave disk_old) (of_disk.seen disk_old) (opened start) last blocks) (run told)
+            (opening_leaves (of_disk.may_leave disk_old) (of_disk.seen disk_old) start last blocks (from told) (same told) from_start))
+            (weaker of_disk.moment of_disk.left_since old.disk new.disk (Between old.image (finished new) blocks)
+            (LeavesPrefix (of_disk.may_leave disk_old) (of_disk.seen disk_old) (opened start) last blocks) (served.ran.crash told (kept told))
+            (λ files h. inr (inr (subst (λ (k0 : Kept). Between k0 last blocks files) is h))));
         left = λ told. served.ran.kept told (kept told);
       }
 
@@ -152,9 +286,9 @@ module _ {D S K : Type 0} (of_disk : disk.Ghosts D) (of_source : source.Ghosts S
 
   module _ (disk_new : D) where
     disk_case : (e : ConnEnd) (kept : Kept) (waiting : Option Cmd) (start : State) (count : ℕ) (unread : List ℕ) → result ≡ status_of e → result ≡ status.DiskFault
-        → Served (terms true second admin) (alone_with of_source of_sink (opened start) None (of_disk.faults disk_old) s k 0 []) (alone_with of_source of_sink kept waiting (of_disk.faults disk_new) t l count unread) e
+        → Served (terms true second admin) (alone_with of_disk of_source of_sink (opened start) None disk_old s k 0 []) (alone_with of_disk of_source of_sink kept waiting disk_new t l count unread) e
         → Rose (of_disk.faults disk_old) (of_disk.faults disk_new)
-    disk_case end.DiskFault kept waiting start count unread is h served = served.ends.2
+    disk_case end.DiskFault kept waiting start count unread is h served = served.ends.1
     disk_case end.ReadFault kept waiting start count unread is h served = cc
     disk_case end.Ended kept waiting start count unread is h served = cc
     disk_case end.Cut kept waiting start count unread is h served = cc
@@ -174,7 +308,7 @@ module _ {D S K : Type 0} (of_disk : disk.Ghosts D) (of_source : source.Ghosts S
     pipe_disk (inr h) e = h.rose (disk_refused h.fault h.is e)
 
     read_case : (e : ConnEnd) (kept : Kept) (waiting : Option Cmd) (start : State) (count : ℕ) (unread : List ℕ) → result ≡ status_of e → result ≡ status.ReadFault
-        → Served (terms true second admin) (alone_with of_source of_sink (opened start) None (of_disk.faults disk_old) s k 0 []) (alone_with of_source of_sink kept waiting (of_disk.faults disk_new) t l count unread) e
+        → Served (terms true second admin) (alone_with of_disk of_source of_sink (opened start) None disk_old s k 0 []) (alone_with of_disk of_source of_sink kept waiting disk_new t l count unread) e
         → Rose (of_source.faults s) (of_source.faults t)
     read_case end.ReadFault kept waiting start count unread is h served = served.ends.2
     read_case end.Ended kept waiting start count unread is h served = cc
@@ -201,7 +335,7 @@ module _ {D S K : Type 0} (of_disk : disk.Ghosts D) (of_source : source.Ghosts S
     pipe_read (inr h) e = absurd (refused_ends h.fault status.ReadFault (inl refl) (sym h.is ∙ e))
 
     write_case : (e : ConnEnd) (kept : Kept) (waiting : Option Cmd) (start : State) (count : ℕ) (unread : List ℕ) → result ≡ status_of e → result ≡ status.WriteFault
-        → Served (terms true second admin) (alone_with of_source of_sink (opened start) None (of_disk.faults disk_old) s k 0 []) (alone_with of_source of_sink kept waiting (of_disk.faults disk_new) t l count unread) e
+        → Served (terms true second admin) (alone_with of_disk of_source of_sink (opened start) None disk_old s k 0 []) (alone_with of_disk of_source of_sink kept waiting disk_new t l count unread) e
         → Rose (of_sink.faults k) (of_sink.faults l)
     write_case end.WriteFault kept waiting start count unread is h served = served.ends.3
     write_case end.Ended kept waiting start count unread is h served = cc
@@ -328,7 +462,7 @@ nothing_opened of_disk of_source of_sink only_now disk s k = record {
   rose = λ e. cc;
   moves = moves_none of_source.given of_source.left s;
   holds = known_none (of_sink.held k);
-  meaning = λ told. inl refl;
+  meaning = λ told. inl (refl, refl);
   crash = λ told. started of_disk.moment of_disk.left_since disk (LeavesMeaning (of_disk.may_leave disk) (of_disk.seen disk)) (λ image left. inl (only_now disk image left));
 }
 
@@ -336,14 +470,14 @@ nothing_opened of_disk of_source of_sink only_now disk s k = record {
 pub nothing_served : {D S K : Type 0} (of_disk : disk.Ghosts D) (of_source : source.Ghosts S) (of_sink : sink.Ghosts K) (second : Option ℕ) (admin : List ℕ) (store : Opened D) (s : S) (k : K)
     → Ran of_disk store store → StoreServed of_disk of_source of_sink second admin store store s s k k status.NoMemory
 nothing_served of_disk of_source of_sink second admin store s k ran =
-    let here : Moment = alone_with of_source of_sink store.image store.waiting (of_disk.faults store.disk) s k 0 [] in
+    let here : Moment = alone_with of_disk of_source of_sink store.image store.waiting store.disk s k 0 [] in
     record {
       count = 0;
       unread = [];
       end = end.NoMemory;
       is = refl;
       served = serve_none end.NoMemory (terms true second admin) here here [] [] [] (known_none here.given) (known_nothing here.left) (known_none here.held)
-          (with_nothing store.image) refl (λ _. inl refl) (λ _. refl) none_yet (refl, inl refl);
+          (with_nothing store.image) refl (λ _. inl refl) (λ _. refl) (λ _. keeps_same (first here) here.blocks here.blocks refl) none_yet (inl (refl, inl refl));
       ran = ran;
     }
 

@@ -44,6 +44,7 @@ module _ {D S K X Y Z : Type 0} (d : disk.Ghosts D) (s : source.Ghosts S) (k : s
     is = h.is;
     from = h.from;
     served = h.served;
+    stores = h.stores;
     crash = λ told. run_within _ (h.crash told);
     left = h.left;
   })

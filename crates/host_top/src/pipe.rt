@@ -33,7 +33,8 @@ pub fn run_pipe<D: Disk, S: Source, K: Sink, C: Clock>(
     ensures untouched { result ≡ Status.Usage → Moves S.given S.left input.old input.new [] × Holds K.held output.old output.new [] × (disk.new ≡ disk.old) }
     // What was written are the machine's replies to the requests that were read, each at its point of one history from
     // the state that the files stood for; whenever a crash comes, they stand for the machine after a prefix of that
-    // history, and after the call for all of it; each other status has its cause.
+    // history, and after the call for all of it, with a block file that has the data of what was uploaded, in which each
+    // content that was sent still stands; each other status has its cause.
     ensures ran { (store admin : List ℕ) → IsPipe (map string_bytes words.now) store admin → PipeRan D.Disk S.Source K.Sink (C.second clock.old) admin disk.old disk.new input.old input.new output.old output.new result }
     // Another program's files and a damaged record are told exactly where they are.
     ensures contents { (store admin : List ℕ) → IsPipe (map string_bytes words.now) store admin → IsTrue D.tells → TellsContents (contents (D.seen disk.old)) result }

@@ -1,5 +1,6 @@
 //! What no clause says: that memory is there, that each call succeeds on a happy path, and the worked examples.
 mod connections;
+mod contents;
 mod requests;
 mod stores;
 mod words;

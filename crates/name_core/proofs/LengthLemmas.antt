@@ -1,13 +1,12 @@
 -- The lengths of namespaces that grow.
-use Rattle.std.proofs.Common.{◌≡◌, ℕ, suc, ◌+◌, ◌^◌, ◌≤◌, Bool, true, false, if◌then◌else◌, ◌&&◌, ◌||◌, ◌==◌, nat_le, List, [], ◌∷◌, ◌++◌, length, map, refl, ap, arith, length-append}
+use Rattle.std.proofs.Common.{◌≡◌, ℕ, suc, ◌+◌, ◌^◌, ◌≤◌, Bool, true, false, if◌then◌else◌, ◌||◌, ◌==◌, nat_le, List, [], ◌∷◌, ◌++◌, length, map, refl, ap, arith, length-append}
 use Rattle.std.proofs.lemmas.Bool.{and_from, lt-ltb, leb-false}
-use Rattle.std.proofs.lemmas.Bool.Decides.{nat_tests}
 use Rattle.std.specs.List.{list_all, list_any}
 use Rattle.fh_model.specs.declared.changes.Change.{Change}
 use Rattle.fh_model.specs.declared.names.Name.{Name}
 use Rattle.fh_model.specs.declared.state.Namespace.{Namespace}
 use Rattle.fh_model.specs.State.{grown, length_of, space_is_spent, spent_at}
-use Rattle.fh_model.specs.Step.{folders}
+use Rattle.fh_model.specs.Folders.{folders}
 use Rattle.name_core.specs.Machine.{length_fits}
 
 or_false : (a b : Bool) → (a || b) ≡ false → (a ≡ false) × (b ≡ false)

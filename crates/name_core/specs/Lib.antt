@@ -1,1 +1,3 @@
+pub mod Committing
+pub mod Images
 pub mod Machine

@@ -5,7 +5,7 @@ use Rattle.fh_model.specs.declared.replies.Reply.{Reply}
 use Rattle.fh_model.specs.declared.state.Namespace.{Namespace}
 use Rattle.fh_model.specs.Resolve.{Look, not_found, found}
 use Rattle.fh_model.specs.State.{State, length_of}
-use Rattle.fh_model.specs.Step.{Stepped}
+use Rattle.fh_model.specs.Stepped.{Stepped}
 
 -- the reply is the step's, and there is a next state exactly where the command enters: the step's
 pub record Does (stepped : Stepped) (before : State) (next : Option State) (reply : Reply) : Type 0 where

@@ -1,12 +1,17 @@
-ghost use Rattle.std.specs.Prelude.{◌≡◌, ℕ, [], IfOk, Ok, Err, IsErrOf};
+ghost use Rattle.std.specs.Prelude.{◌≡◌, ◌≤◌, ◌^◌, ℕ, [], IfOk, IsTrue, Ok, Err, Some, IsErrOf, option_copied};
+ghost use Rattle.fh_model.specs.declared.changes.Node.TheVariants.{File};
+ghost use Rattle.fh_model.specs.declared.files.FileMeta.{FileMeta};
+ghost use Rattle.fh_model.specs.Files.{has_its_size};
+ghost use Rattle.fh_model.specs.KeptFiles.{IsKept};
+ghost use Rattle.fh_model.specs.Pieces.{end_in};
 ghost use Rattle.fh_model.specs.Rows.{rows_of, state_of_rows};
-ghost use Rattle.fh_model.specs.State.{opening, token_user, home_of};
+ghost use Rattle.fh_model.specs.State.{opening, token_user, home_of, meta_of};
 ghost use Rattle.fh_model.specs.Resolve.{resolve, found, malformed, not_found};
 ghost use Rattle.fh_model.specs.History.{Kept, state_of, next_of, reply_of};
 
 use crate::machine::{Done, Machine};
 use crate::{LookFault, RowsFault};
-use fh_model::{Cmd, Copies, Found, NoMemory, Reply, Row, Text, copy_all};
+use fh_model::{Cmd, Copies, FileMeta, Found, NoMemory, Reply, Row, Text, copy_all};
 use std::alloc::Global;
 use std::marker::Model;
 use std::sync::Arc;
@@ -21,19 +26,20 @@ pub struct Image {
 }
 
 impl Model for Image {
-    ghost use Rattle.std.specs.Prelude.{◌≡◌};
     ghost use Rattle.std.specs.Arc.{arc_value};
-    ghost use Rattle.fh_model.specs.History.{Kept, state_after};
+    ghost use Rattle.fh_model.specs.History.{Kept};
+    ghost use Rattle.name_core.specs.Images.{IsImage};
 
     ghost Value = { Kept };
 
     ghost view = { λ image. record { start = arc_value image.start; history = image.history.items } };
 
-    ghost invariant = { λ image. image.machine ≡ state_after (arc_value image.start) image.history.items };
+    ghost invariant = { λ image. IsImage (arc_value image.start) image.history.items image.machine };
 }
 
 impl Image {
     /// The image of a new store.
+    #[tactic(auto, using(fh_model::proofs::KeptFileLaws::opening_keeps_files))]
     pub fn empty(alloc: Global) -> Result<Image, NoMemory>
         ensures start { IfOk result (λ image. image.start ≡ opening) }
         ensures history { IfOk result (λ image. image.history ≡ []) }
@@ -48,6 +54,7 @@ impl Image {
     }
 
     /// The state that the rows of a checkpoint stand for, keeping no command. `Bad` comes where a rule is broken.
+    #[tactic(auto, using(fh_model::proofs::KeptFileLaws::rows_keep_files))]
     pub fn from_rows(alloc: Global, rows: &[Row]) -> Result<Image, RowsFault>
         ensures start { IfOk result (λ image. state_of_rows rows.now ≡ Ok image.start) }
         ensures history { IfOk result (λ image. image.history ≡ []) }
@@ -141,9 +148,11 @@ impl Image {
     }
 
     /// What the path of a user leads to, as the user sees it. `Malformed` comes exactly where the text is, and
-    /// `NotFound` where it leads to nothing: for a user that there isn't, each path does.
+    /// `NotFound` where it leads to nothing: for a user that there isn't, each path does. A file that is found is the
+    /// version that is kept under its rev, and its size is the sum of its pieces' lengths.
     pub fn resolve(&self, user: u64, path: &Text) -> Result<Found, LookFault>
         ensures found { IfOk result (λ there. resolve (state_of self.now) user path.now ≡ found there) }
+        ensures file { IfOk result (λ there. (meta : FileMeta) → there.node ≡ Some (File meta) → IsKept (state_of self.now) meta × IsTrue (has_its_size meta)) }
         ensures malformed { IsErrOf result LookFault.Malformed → resolve (state_of self.now) user path.now ≡ malformed }
         ensures missing { IsErrOf result LookFault.NotFound → resolve (state_of self.now) user path.now ≡ not_found }
     {
@@ -162,5 +171,20 @@ impl Image {
         ensures { result ≡ home_of (state_of self.now) user }
     {
         self.machine.home_of(user)
+    }
+    /// The version of a file with this rev, deleted or not. Takes no memory.
+    pub fn meta(&self, rev: u64) -> Option<&FileMeta>
+        ensures { option_copied result ≡ meta_of (state_of self.now) rev }
+    {
+        self.machine.meta(rev)
+    }
+
+    /// The greatest end of a piece in the state, 0 where there is none: where the next data goes, in bytes from the
+    /// start of the block file. Takes no memory.
+    pub fn end(&self) -> u64
+        requires { end_in (state_of self.now) ≤ 2 ^ 62 }
+        ensures { result ≡ end_in (state_of self.now) }
+    {
+        self.machine.end()
     }
 }

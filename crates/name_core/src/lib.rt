@@ -5,7 +5,10 @@
 //! Each namespace keeps the tree that its changes make, so a path is looked up without reading the changes again.
 #![tactic(auto)]
 
+mod commits;
+mod ends;
 mod faults;
+mod files;
 mod image;
 mod keys;
 mod looks;
@@ -16,6 +19,8 @@ mod row_rules;
 mod rows;
 mod space;
 mod trees;
+mod uploads;
+mod verdicts;
 mod writing;
 
 pub use faults::{LookFault, RowsFault};
@@ -25,3 +30,5 @@ pub use image::Image;
 mod path_tests;
 #[cfg(test)]
 mod tests;
+#[cfg(test)]
+mod upload_tests;

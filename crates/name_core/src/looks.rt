@@ -1,15 +1,15 @@
 //! What a user's path leads to.
-ghost use Rattle.std.specs.Prelude.{◌≡◌, [], IfOk, IsErrOf, Some};
+ghost use Rattle.std.specs.Prelude.{◌≡◌, [], IfOk, IsErrOf, Some, option_copied};
 ghost use Rattle.fh_model.specs.Places.{place_of};
-ghost use Rattle.fh_model.specs.Resolve.{look_in, look_at, look_for, resolve, malformed, not_found, found};
-ghost use Rattle.fh_model.specs.State.{user_of};
+ghost use Rattle.fh_model.specs.Resolve.{look_in, look_at, look_from, look_of_revision, resolve, malformed, not_found, found};
+ghost use Rattle.fh_model.specs.State.{revision_of, user_of};
 ghost use Rattle.name_core.specs.Machine.{look_of};
 
 use crate::LookFault;
 use crate::machine::Machine;
 use crate::places::{is_below_file, path_of};
 use crate::trees::item_at;
-use fh_model::{Copies, Found, Items, Name, NoMemory, PathArg, Place, Text};
+use fh_model::{Copies, Found, Items, Name, NoMemory, Node, PathArg, Place, Revision, Text};
 
 impl Machine {
     /// The root of a namespace, which is no node.
@@ -49,12 +49,52 @@ impl Machine {
         }))
     }
 
-    fn look_for(&self, home: u64, arg: &PathArg) -> Result<Option<Found>, NoMemory>
+    fn look_at(&self, home: u64, arg: &PathArg) -> Result<Option<Found>, NoMemory>
         ensures { IfOk result (λ there. look_of there ≡ look_at self.now home (place_of self.now home arg.now)) }
     {
         match self.place_of(home, arg)? {
             None => Ok(None),
             Some(place) => self.look_in(home, place.ns, place.names.as_slice()),
+        }
+    }
+
+    /// A revision, where the user sees its namespace.
+    fn look_of_revision(
+        &self,
+        home: u64,
+        kept: Option<&Revision>,
+    ) -> Result<Option<Found>, NoMemory>
+        ensures { IfOk result (λ there. look_of there ≡ look_of_revision self.now home (option_copied kept.entry)) }
+    {
+        let Some(kept) = kept else {
+            return Ok(None);
+        };
+        if self.view_of(home, kept.ns).is_none() {
+            return Ok(None);
+        }
+        Ok(Some(Found {
+            place: Place {
+                ns: kept.ns,
+                names: kept.names.copy()?,
+            },
+            node: Some(Node::File(kept.file.copy()?)),
+            names: self.names_in_view(home, kept.ns, kept.names.as_slice())?,
+        }))
+    }
+
+    fn look_from(&self, home: u64, arg: &PathArg) -> Result<Option<Found>, NoMemory>
+        ensures { IfOk result (λ there. look_of there ≡ look_from self.now home arg.now) }
+    {
+        match arg {
+            PathArg::Names(_) => self.look_at(home, arg),
+            PathArg::Id(_) => self.look_at(home, arg),
+            PathArg::Rev(rev) => {
+                if *rev == 0 {
+                    return Ok(None);
+                }
+                self.look_of_revision(home, self.revision(*rev))
+            }
+            PathArg::Ns(..) => self.look_at(home, arg),
         }
     }
 
@@ -71,7 +111,7 @@ impl Machine {
         let Some(user) = self.user(user) else {
             return Err(LookFault::NotFound);
         };
-        match self.look_for(user.home, &arg)? {
+        match self.look_from(user.home, &arg)? {
             Some(there) => Ok(there),
             None => Err(LookFault::NotFound),
         }

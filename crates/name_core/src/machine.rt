@@ -2,8 +2,10 @@
 ghost use Rattle.std.specs.Prelude.{◌≡◌, ◌<◌, ◌^◌, ℕ, false, true, List, IfOk, Ok, Err, IsErrOf, map, option_copied, find, ◌==◌};
 ghost use Rattle.std.specs.List.{list_all, list_any};
 ghost use Rattle.fh_model.specs.Rows.{rows_of, state_of_rows};
-ghost use Rattle.fh_model.specs.State.{opening, user_of, home_of, token_user, has_token, tree_in, next_is_spent, space_is_spent, is_spent, grown};
-ghost use Rattle.fh_model.specs.Step.{step, with_folders, with_folder, unless_taken, folder_in, make_folder, act_on, refused, refusal_of, conflict};
+ghost use Rattle.fh_model.specs.State.{opening, meta_of, revision_of, session_is_spent, user_of, home_of, token_user, has_token, tree_in, next_is_spent, space_is_spent, is_spent, grown};
+ghost use Rattle.fh_model.specs.Folders.{with_folders, with_folder, unless_taken, folder_in, make_folder};
+ghost use Rattle.fh_model.specs.Step.{step, act_on};
+ghost use Rattle.fh_model.specs.Stepped.{refused, refusal_of, conflict};
 ghost use Rattle.fh_model.specs.Keys.{key_of};
 ghost use Rattle.fh_model.specs.Trees.{item_at};
 ghost use Rattle.name_core.specs.Machine.{Does, length_fits};
@@ -17,8 +19,8 @@ use crate::space::Space;
 use crate::trees::item_at;
 use crate::writing::{folders, missed_above, shown_in};
 use fh_model::{
-    Act, Change, Cmd, Copies, Entry, Item, Items, Name, Names, Namespace, Next, NoMemory, Refusal,
-    Reply, Row, SPENT_AT, Text, User, copy_all,
+    Act, Change, Cmd, Copies, Entry, FileMeta, Item, Items, Name, Names, Namespace, Next, NoMemory,
+    Refusal, Reply, Revision, Row, SPENT_AT, Session, Tags, Text, User, copy_all,
 };
 use std::alloc::Global;
 use std::marker::Model;
@@ -26,10 +28,12 @@ use std::marker::Model;
 /// A state of the machine.
 #[derive(Debug, Drop)]
 pub(crate) struct Machine {
-    users: Vec<User>,
-    namespaces: Vec<Space>,
-    next: Next,
-    moment: u64,
+    pub(crate) users: Vec<User>,
+    pub(crate) namespaces: Vec<Space>,
+    pub(crate) revisions: Vec<Revision>,
+    pub(crate) sessions: Vec<Session>,
+    pub(crate) next: Next,
+    pub(crate) moment: u64,
 }
 
 impl Model for Machine {
@@ -40,7 +44,7 @@ impl Model for Machine {
 
     ghost Value = { State };
 
-    ghost view = { λ m. record { users = m.users.items; namespaces = m.namespaces.items; next = m.next; moment = m.moment } };
+    ghost view = { λ m. record { users = m.users.items; namespaces = m.namespaces.items; revisions = m.revisions.items; sessions = m.sessions.items; next = m.next; moment = m.moment } };
 
     ghost invariant = { λ m. list_all length_fits m.namespaces.items ≡ true };
 }
@@ -75,6 +79,8 @@ impl Machine {
         Ok(Machine {
             users,
             namespaces,
+            revisions: Vec::new(alloc),
+            sessions: Vec::new(alloc),
             next: Next {
                 rev: 1,
                 id: 1,
@@ -102,6 +108,8 @@ impl Machine {
         Ok(Machine {
             users,
             namespaces,
+            revisions: Vec::new(alloc),
+            sessions: Vec::new(alloc),
             next,
             moment,
         })
@@ -130,9 +138,13 @@ impl Machine {
     {
         let users = copy_all(self.alloc(), &self.users)?;
         let namespaces = copy_all(self.alloc(), &self.namespaces)?;
+        let revisions = copy_all(self.alloc(), &self.revisions)?;
+        let sessions = copy_all(self.alloc(), &self.sessions)?;
         Ok(Machine {
             users,
             namespaces,
+            revisions,
+            sessions,
             next: self.next,
             moment: self.moment,
         })
@@ -171,12 +183,28 @@ impl Machine {
         self.users.iter().find(|user| has_token(user, token))
     }
 
-    /// The number of the user whose token this is.
+    /// The number of the user whose token these bytes are.
     pub(crate) fn token_user(&self, token: &[u8]) -> Option<u64>
         ensures { result ≡ token_user self.now token.now }
     {
         match self.user_with(token) {
             Some(user) => Some(user.number),
+            None => None,
+        }
+    }
+
+    /// The version with this rev.
+    pub(crate) fn revision(&self, rev: u64) -> Option<&Revision>
+        ensures { option_copied result ≡ revision_of self.now rev }
+    {
+        self.revisions.iter().find(|kept| kept.file.rev == rev)
+    }
+
+    pub(crate) fn meta(&self, rev: u64) -> Option<&FileMeta>
+        ensures { option_copied result ≡ meta_of self.now rev }
+    {
+        match self.revision(rev) {
+            Some(kept) => Some(&kept.file),
             None => None,
         }
     }
@@ -203,7 +231,8 @@ impl Machine {
     fn is_spent(&self) -> bool
         ensures { result ≡ is_spent self.now }
     {
-        next_is_spent(&self.next) || any_is_spent(&self.namespaces)
+        next_is_spent(&self.next)
+            || (any_is_spent(&self.namespaces) || any_session_is_spent(&self.sessions))
     }
 
     /// The machine with folders at the names that are missed and then at the names.
@@ -227,6 +256,8 @@ impl Machine {
         let next = Machine {
             users: copy_all(alloc, &self.users)?,
             namespaces: grow_all(alloc, &self.namespaces, number, &changes)?,
+            revisions: copy_all(alloc, &self.revisions)?,
+            sessions: copy_all(alloc, &self.sessions)?,
             next: Next {
                 id: id + 1,
                 ..self.next
@@ -324,6 +355,12 @@ impl Machine {
         let moment = cmd.at.max(self.moment);
         match &cmd.act {
             Act::MakeFolder { user, path, .. } => self.make_folder(moment, *user, path),
+            Act::Upload {
+                user,
+                commit,
+                drafted,
+                last,
+            } => self.upload(moment, *user, commit, *drafted, last),
         }
     }
 
@@ -335,7 +372,7 @@ impl Machine {
     }
 
     /// A refusal with these tags, which changes nothing.
-    fn refuse(&self, tags: &[&str]) -> Result<Done, NoMemory>
+    pub(crate) fn refuse(&self, tags: &[&str]) -> Result<Done, NoMemory>
         ensures { IfOk result (λ done. Does (refused self.now (map (λ tag. tag.now) tags.now)) self.now done.next done.reply) }
     {
         let refusal = refusal_of(self.alloc(), tags)?;
@@ -349,15 +386,21 @@ impl Machine {
 fn refusal_of(alloc: Global, tags: &[&str]) -> Result<Refusal, NoMemory>
     ensures { IfOk result (λ refusal. Reply.Refused refusal ≡ refusal_of (map (λ tag. tag.now) tags.now)) }
 {
+    Ok(Refusal {
+        tags: tags_of(alloc, tags)?,
+        session: None,
+        offset: None,
+    })
+}
+
+pub(crate) fn tags_of(alloc: Global, tags: &[&str]) -> Result<Tags, NoMemory>
+    ensures { IfOk result (λ texts. texts ≡ map (λ tag. tag.now) tags.now) }
+{
     let mut texts = Vec::new(alloc);
     for tag in tags {
         texts.push(Text::new(String::from_str(alloc, tag)?))?;
     }
-    Ok(Refusal {
-        tags: Items::new(texts),
-        session: None,
-        offset: None,
-    })
+    Ok(Items::new(texts))
 }
 
 fn next_is_spent(next: &Next) -> bool
@@ -374,6 +417,15 @@ fn any_is_spent(spaces: &[Space]) -> bool
     spaces.iter().any(|space| space.is_spent())
 }
 
+/// The number of pieces of a session at which it is spent.
+const PIECES_SPENT_AT: usize = 1 << 31;
+
+fn any_session_is_spent(sessions: &[Session]) -> bool
+    ensures { result ≡ list_any session_is_spent sessions.now }
+{
+    sessions.iter().any(|session| PIECES_SPENT_AT <= session.pieces.as_slice().len())
+}
+
 fn has_token(user: &User, token: &[u8]) -> bool
     ensures { result ≡ has_token token.now user.now }
 {
@@ -384,7 +436,7 @@ fn has_token(user: &User, token: &[u8]) -> bool
 }
 
 /// The namespaces, where the one with this number has more changes.
-fn grow_all(
+pub(crate) fn grow_all(
     alloc: Global,
     spaces: &[Space],
     number: u64,

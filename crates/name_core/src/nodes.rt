@@ -8,6 +8,7 @@ pub(crate) fn id_of(node: &Node) -> u64
     ensures { result ≡ id_of node.now }
 {
     match node {
+        Node::File(meta) => meta.id,
         Node::Folder { id } => *id,
         Node::Mount { id, .. } => *id,
     }
@@ -18,6 +19,7 @@ pub(crate) fn mounted_at(node: &Node) -> Option<u64>
     ensures { result ≡ mounted_at node.now }
 {
     match node {
+        Node::File(_) => None,
         Node::Folder { .. } => None,
         Node::Mount { ns, .. } => Some(*ns),
     }
@@ -28,6 +30,7 @@ pub(crate) fn mounts(number: u64, node: &Node) -> bool
     ensures { result ≡ mounts number node.now }
 {
     match node {
+        Node::File(_) => false,
         Node::Folder { .. } => false,
         Node::Mount { ns, .. } => *ns == number,
     }
@@ -37,6 +40,7 @@ pub(crate) fn is_file(node: &Node) -> bool
     ensures { result ≡ is_file node.now }
 {
     match node {
+        Node::File(_) => true,
         Node::Folder { .. } => false,
         Node::Mount { .. } => false,
     }
@@ -47,6 +51,7 @@ pub(crate) fn kind_tag(node: &Node) -> &'static str
     ensures { result.now ≡ kind_tag node.now }
 {
     match node {
+        Node::File(_) => "file",
         Node::Folder { .. } => "folder",
         Node::Mount { .. } => "folder",
     }

@@ -98,6 +98,7 @@ fn replied(rt: HostRuntime, reply: &Reply) -> Result<String, Fail> {
             put_shown(&mut line, names.as_slice())?;
             Ok(line)
         }
+        Reply::Entry(Entry::File { .. }) => Ok(String::from_str(rt.alloc(), "file")?),
         Reply::Refused(refusal) => {
             let mut line = String::new(rt.alloc());
             put_tags(&mut line, refusal.tags.as_slice())?;
@@ -114,6 +115,7 @@ fn shown(rt: HostRuntime, there: &Found) -> Result<String, Fail> {
             put_folded(&mut line, there.place.names.as_slice())?;
             Ok(line)
         }
+        Some(Node::File(_)) => Ok(String::from_str(rt.alloc(), "file")?),
         Some(Node::Mount { .. }) => Ok(String::from_str(rt.alloc(), "mount")?),
         None => Ok(String::from_str(rt.alloc(), "root")?),
     }

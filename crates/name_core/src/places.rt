@@ -88,6 +88,10 @@ fn place_over(
     ensures { IfOk result (λ place. place ≡ place_over number names.now above.now node.now) }
 {
     match node {
+        Node::File(_) => Ok(Place {
+            ns: number,
+            names: names_at(alloc, names)?,
+        }),
         Node::Folder { .. } => Ok(Place {
             ns: number,
             names: names_at(alloc, names)?,

@@ -78,6 +78,10 @@ fn changed(alloc: Global, change: &Change, tree: &[Item]) -> Result<Vec<Item>, N
 {
     match change {
         Change::Put { names, node } => match node {
+            Node::File(_) => {
+                let left = without(alloc, tree, names.as_slice())?;
+                with_node(alloc, &left, names, node)
+            }
             Node::Folder { .. } => with_node(alloc, tree, names, node),
             Node::Mount { .. } => with_node(alloc, tree, names, node),
         },

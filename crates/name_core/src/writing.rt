@@ -1,7 +1,7 @@
 //! Where a path writes: the names as the tree shows them, and the folders that are missed above.
 ghost use Rattle.std.specs.Prelude.{◌≡◌, ◌+◌, ◌^◌, ◌≤◌, ◌++◌, ◌∷◌, [], IfOk, OnOk, Some, if◌then◌else◌, is_none, length, option_copied};
 ghost use Rattle.fh_model.specs.Keys.{key_of};
-ghost use Rattle.fh_model.specs.Step.{folders};
+ghost use Rattle.fh_model.specs.Folders.{folders};
 ghost use Rattle.fh_model.specs.Trees.{item_at};
 ghost use Rattle.fh_model.specs.WritePlaces.{write_place, name_at, shown_in, missed_above};
 

@@ -241,6 +241,6 @@ module _ (t : Terms) (before now : Moment) (ending : ConnEnd) (new : before.unre
   complete Bad h read write port = bad_bytes h
   complete ReadFault h read write port = absurd (read h.ends.2)
   complete WriteFault h read write port = absurd (write h.ends.3)
-  complete DiskFault h read write port = absurd (port h.ends.2)
+  complete DiskFault h read write port = absurd (port h.ends.1)
   complete NoMemory h read write port = inr (inl refl)
   complete Spent h read write port = absurd (spent h)

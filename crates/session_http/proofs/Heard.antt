@@ -1,5 +1,6 @@
 -- A head and its body, as calls of the reader gave them, are one request.
-use Rattle.std.proofs.Common.{◌≡◌, ℕ, ◌≤◌, List, [], ◌++◌, Option, refl, sym, ◌∙◌, ap, subst, append_assoc, inl, inr}
+use Rattle.std.proofs.Common.{◌≡◌, ℕ, ◌≤◌, List, [], ◌++◌, Option, refl, sym, ◌∙◌, ap, subst, append_assoc, inl, inr, option_map}
+use Rattle.httparse.specs.Grammar.{RequestHead}
 use Rattle.std.specs.Io.KnownBytes.{IsAtEnd, append_known, prepend_known}
 use Rattle.fh_world.specs.Causes.{Rose}
 use Rattle.fh_model.specs.History.{Kept, state_of}
@@ -9,15 +10,17 @@ use Rattle.http_in.specs.declared.place.State.{State}
 use Rattle.http_in.specs.declared.place.State.TheVariants.{Inside}
 use Rattle.http_in.specs.Bodies.{Ending, BodyFrom, done, cut, bad, too_large}
 use Rattle.http_in.specs.Heads.{BeginsWithHead}
-use Rattle.http_in.specs.Parts.{limit_of}
+use Rattle.http_in.specs.Parts.{IsHeadOf, limit_of}
 use Rattle.http_in.specs.Requests.{Request, BeginsWithBody}
 use Rattle.http_in.specs.Stands.{place_of}
 use Rattle.http_in.proofs.MoreBytes.{head_more}
+use Rattle.session_rules.specs.Asked.{arg_in}
 use Rattle.session_rules.specs.Connection.{interim_of}
 use Rattle.session_rules.specs.Decisions.{Called}
 use Rattle.session_rules.specs.Replies.{bad_request, body_too_large}
 use Rattle.session_http.specs.Begun.{IsRefused}
 use Rattle.session_http.specs.Bodies.{Holds}
+use Rattle.session_http.specs.declared.bodies.Body.{Body}
 use Rattle.session_http.specs.Steps.{Hears, IsKnown, Opens, Passes, Stops}
 use Rattle.session_http.specs.Talk.{Terms, Moment}
 use Rattle.session_http.specs.declared.conn.ConnEnd.TheVariants.{Cut, ReadFault, NoMemory}
@@ -29,12 +32,17 @@ use Rattle.session_http.proofs.Talks.{at_most, known_more, known_less, rose_sinc
 pub record Beside (mid new : Moment) : Type 0 where
   pub seen : new.seen ≡ mid.seen
   pub waits : new.waits ≡ mid.waits
+  pub blocks : new.blocks ≡ mid.blocks
   pub number : new.number ≡ mid.number
   pub count : new.count ≡ mid.count
   pub port_faults : new.port_faults ≡ mid.port_faults
   pub held : new.held ≡ mid.held
   pub write_faults : new.write_faults ≡ mid.write_faults
   pub read_later : mid.read_faults ≤ new.read_faults
+
+-- the argument in a head is what the definitions read in it
+pub arg_same : (h : RequestHead) (head : Head) → IsHeadOf h head → option_map (λ v. v.items) head.arg ≡ arg_in h
+arg_same h head is = is.arg_is
 
 same_place : (p q : Place) → Inside p ≡ Inside q → p ≡ q
 same_place p q e = cc
@@ -61,6 +69,7 @@ module _ (t : Terms) (old mid new : Moment) (call : Option Called) (head : Head)
         grown = beside.seen ∙ h.grown;
         mine = h.mine;
         waits = beside.waits ∙ h.waits;
+        blocks = beside.blocks ∙ h.blocks;
         number = beside.number ∙ h.number;
         count = beside.count ∙ h.count;
         port_faults = beside.port_faults ∙ h.port_faults;
@@ -94,15 +103,16 @@ module _ (t : Terms) (old mid new : Moment) (call : Option Called) (head : Head)
       subst P (sym beside.seen) opens.known
 
   -- the request is whole
-  pub hears : (kept : Option (List ℕ)) → Holds kept content → BodyFrom place (mid.unread ++ fresh) added (done new.unread)
-      → Hears t old new call head.last kept
-  hears kept holds body = record {
+  pub hears : (body : Body) (kept : List ℕ) → Holds body kept content → BodyFrom place (mid.unread ++ fresh) added (done new.unread)
+      → Hears t old new call head.last (option_map (λ v. v.items) head.arg) body kept
+  hears body kept holds came = record {
     asked = asked;
     bytes = bytes;
     passes = passes_body;
-    begins = request_begins (done new.unread) body;
+    begins = request_begins (done new.unread) came;
     known = known_on;
     asked_last = last_same opens.asked head opens.is;
+    argued = arg_same opens.asked head opens.is;
     holds = holds;
   }
 

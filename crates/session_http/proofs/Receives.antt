@@ -23,7 +23,7 @@ use Rattle.session_http.specs.Steps.{Breaks, IsSaid, Opens, Passes, SaysLast, St
 use Rattle.session_http.specs.Talk.{Terms, Moment, moment, terms}
 use Rattle.session_http.specs.declared.conn.ConnEnd.{ConnEnd}
 use Rattle.session_http.specs.declared.conn.ConnEnd.TheVariants.{Ended, Cut, Bad, ReadFault, WriteFault, DiskFault, NoMemory, Spent}
-use Rattle.session_http.proofs.Callers.{with_nothing}
+use Rattle.fh_model.proofs.Runs.{with_nothing}
 use Rattle.session_http.proofs.Heard.{Beside}
 use Rattle.session_http.proofs.Ones.{held_more, at_most_to, part_more}
 use Rattle.session_http.proofs.Points.{known_same, waits_same}
@@ -33,6 +33,7 @@ use Rattle.session_http.proofs.Talks.{at_most, rose_since, known_none}
 pub record Same (mid new : Moment) : Type 0 where
   pub seen : new.seen ≡ mid.seen
   pub waits : new.waits ≡ mid.waits
+  pub blocks : new.blocks ≡ mid.blocks
   pub number : new.number ≡ mid.number
   pub count : new.count ≡ mid.count
   pub port_faults : new.port_faults ≡ mid.port_faults
@@ -51,6 +52,7 @@ passes_on t old mid new bytes before text h same wrote later = record {
   grown = same.seen ∙ h.grown;
   mine = h.mine;
   waits = same.waits ∙ h.waits;
+  blocks = same.blocks ∙ h.blocks;
   number = same.number ∙ h.number;
   count = same.count ∙ h.count;
   port_faults = same.port_faults ∙ h.port_faults;
@@ -154,7 +156,7 @@ module _ {P S K : Type 0} (p : view.Ghosts P) (s : source.Ghosts S) (k : sink.Gh
   pub written : (port : P) (a : S) (ends ended : K) (held : List ℕ) → k.faults ends ≤ k.faults ended
       → Written k.held k.faults ends ended (here port a ends held) (here port a ended held)
   written port a ends ended held later = record {
-    same = record { seen = refl; waits = refl; number = refl; count = refl; port_faults = refl; given = refl; left = refl; read_faults = refl };
+    same = record { seen = refl; waits = refl; blocks = refl; number = refl; count = refl; port_faults = refl; given = refl; left = refl; read_faults = refl };
     held_old = refl;
     held_new = refl;
     faults_old = refl;
@@ -165,7 +167,7 @@ module _ {P S K : Type 0} (p : view.Ghosts P) (s : source.Ghosts S) (k : sink.Gh
   -- the body was read and nothing else was done
   pub beside : (port : P) (a b : S) (ends : K) (held kept : List ℕ) → s.faults a ≤ s.faults b → Beside (here port a ends held) (here port b ends kept)
   beside port a b ends held kept later =
-      record { seen = refl; waits = refl; number = refl; count = refl; port_faults = refl; held = refl; write_faults = refl; read_later = later }
+      record { seen = refl; waits = refl; blocks = refl; number = refl; count = refl; port_faults = refl; held = refl; write_faults = refl; read_later = later }
 
   -- the next head was read and nothing else was done
   abbrev pub passes_next : (port : P) (a b : S) (ends : K) (held kept bytes : List ℕ) → Moves s.given s.left a b bytes → s.faults a ≤ s.faults b
@@ -178,6 +180,7 @@ module _ {P S K : Type 0} (p : view.Ghosts P) (s : source.Ghosts S) (k : sink.Gh
     grown = with_nothing (p.seen port);
     mine = λ _. refl;
     waits = refl;
+    blocks = refl;
     number = refl;
     count = refl;
     port_faults = refl;
@@ -237,7 +240,7 @@ module _ {P S K : Type 0} (p : view.Ghosts P) (s : source.Ghosts S) (k : sink.Gh
   module _ (port called : P) (a b : S) (ends ended : K) (held kept : List ℕ) (head : Head) (call : Option Called) (next : HeadCall s.given s.left a b held kept (step.Head head))
       (later : s.faults a ≤ s.faults b)
       (calls : Calls p.alone admin (p.seen port) (p.seen called) head.method.items head.target.items (option_map (λ v. v.items) head.token) call)
-      (waits_same_port : p.waits called ≡ p.waits port) (number_same : p.number called ≡ p.number port) (faults_same : p.faults called ≡ p.faults port)
+      (waits_same_port : p.waits called ≡ p.waits port) (blocks_same : p.blocks called ≡ p.blocks port) (number_same : p.number called ≡ p.number port) (faults_same : p.faults called ≡ p.faults port)
       (later_end : k.faults ends ≤ k.faults ended) where
     passes_called : (end : K) (text : List ℕ) → Holds k.held ends end text → k.faults ends ≤ k.faults end
         → Passes t (here port a ends held) (here called b end kept) next.fresh text
@@ -249,6 +252,7 @@ module _ {P S K : Type 0} (p : view.Ghosts P) (s : source.Ghosts S) (k : sink.Gh
       grown = calls.grown;
       mine = calls.mine;
       waits = waits_same_port;
+      blocks = blocks_same;
       number = number_same;
       count = refl;
       port_faults = faults_same;

@@ -1,28 +1,31 @@
 -- What a connection did from a moment on, said of it from its start.
-use Rattle.std.proofs.Common.{◌≡◌, ◌≢◌, ℕ, ◌+◌, ◌<◌, ◌≤◌, List, [], ◌∷◌, ◌++◌, length, refl, sym, ◌∙◌, ap, subst, append_assoc, append-nil, arith, length-append, inl, inr, ◌⊎◌, Bool, true, false, IsTrue}
+use Rattle.std.proofs.Common.{◌≡◌, ◌≢◌, ℕ, ◌+◌, ◌<◌, ◌≤◌, List, [], ◌∷◌, ◌++◌, All, length, refl, sym, ◌∙◌, ap, subst, append_assoc, append-nil, arith, length-append, inl, inr, ◌⊎◌, Bool, true, false, IsTrue}
 use Rattle.std.proofs.lemmas.List.Elements.{All-append, All-cons}
 use Rattle.std.specs.Io.KnownBytes.{IsAtEnd, append_known, prepend_known}
-use Rattle.fh_world.specs.Causes.{Rose}
 use Rattle.fh_model.specs.declared.commands.Cmd.{Cmd}
-use Rattle.fh_model.specs.History.{with_more}
-use Rattle.host_seat.specs.Port.{Leaves}
+use Rattle.fh_model.specs.History.{state_after, with_more}
+use Rattle.fh_model.specs.State.{State}
+use Rattle.host_seat.specs.Port.{KeepsPieces, Leaves}
 use Rattle.http_in.specs.Bodies.{done}
 use Rattle.http_in.specs.Requests.{BeginsWithBody}
 use Rattle.session_rules.specs.Asked.{asks_last}
-use Rattle.session_rules.specs.Connection.{Turn, cmd_of, decision, gained_in, text_in, texts}
+use Rattle.session_rules.specs.Connection.{Turn, cmd_with, decision, gained_in, text_in, texts}
 use Rattle.session_http.specs.Begun.{stay}
-use Rattle.session_http.specs.Talk.{Terms, Moment, IsTurn, Talk, desk, first, added, state_behind, replies, replies_behind}
-use Rattle.session_http.specs.Ends.{GoOn, EndsLast, IsPart, IsWritten, IsStopped, EndsBy, Served}
+use Rattle.session_http.specs.Talk.{Terms, Moment, IsTurn, IsWhole, Stored, Talk, desk, first, added, state_behind, replies, replies_behind}
+use Rattle.session_http.specs.Ends.{GoOn, EndsLast, IsBrokenOff, IsPart, IsWritten, IsStopped, EndsBy, Served}
 use Rattle.session_http.specs.Steps.{Turned, StopsBy, Stops}
 use Rattle.session_http.specs.declared.conn.ConnEnd.{ConnEnd}
 use Rattle.session_http.specs.declared.conn.ConnEnd.TheVariants.{Ended, Cut, Bad, ReadFault, WriteFault, DiskFault, NoMemory, Spent}
 use Rattle.session_http.proofs.Begun.{begins_one}
-use Rattle.session_http.proofs.Talks.{at_most, below_nothing, talk_starts, talk_on, state_on, same_desk, replies_on, leaves_more, rose_since}
+use Rattle.session_http.proofs.Callers.{keeps_same}
+use Rattle.session_http.proofs.Talks.{at_most, below_nothing, talk_starts, talk_on, state_on, same_desk, replies_on, leaves_more, rose_since, stored_idle, stored_more}
 
 -- the talk so far, where all requests that were read are answered, and none asked that the connection end
 pub record SoFar (t : Terms) (before now : Moment) : Type 0 where
   pub turns : List Turn
   pub talk : Talk t before now turns [] now.unread (replies t before turns)
+  pub stored : Stored t before now turns
+  pub whole : All (λ turn. IsWhole turn.kind) turns
   pub counted : now.count ≡ before.count + length turns
   pub waits : Leaves before.waits [] now.waits
   pub going : GoOn turns
@@ -37,6 +40,8 @@ pub so_far_starts : (t : Terms) (m : Moment) → SoFar t m m
 so_far_starts t m = record {
   turns = [];
   talk = talk_starts t m;
+  stored = stored_idle t m m (λ _. keeps_same (first m) m.blocks m.blocks refl);
+  whole = λ k d h. absurd (below_nothing k h);
   counted = none_on m.count;
   waits = inl refl;
   going = λ k d h. absurd (below_nothing k h);
@@ -72,10 +77,14 @@ module _ (t : Terms) (before mid now : Moment) (so : SoFar t before mid) where
   stopped_on : (answered : List Turn) (behind : List Cmd) (rest part : List ℕ) → IsStopped t mid now answered behind rest part
       → IsStopped t before now (so.turns ++ answered) behind rest part
   stopped_on answered behind rest part h =
-      let P : ℕ → Type 0 = λ n. Leaves mid.waits (cmd_of n h.turn.at h.act ∷ []) now.waits in
+      let here = state_after (state_behind t mid answered) h.turn.others in
+      let P : ℕ → Type 0 = λ n. Leaves mid.waits (cmd_with n h.turn.at here h.act h.bytes ∷ []) now.waits in
+      let Q : State → Type 0 = λ s. Leaves mid.waits (cmd_with before.number h.turn.at (state_after s h.turn.others) h.act h.bytes ∷ []) now.waits in
+      let there = state_on t before mid so.turns (replies t before so.turns) so.talk answered in
       record {
         turn = h.turn;
         act = h.act;
+        bytes = h.bytes;
         after = h.after;
         begins = h.begins;
         is = h.is;
@@ -84,8 +93,15 @@ module _ (t : Terms) (before mid now : Moment) (so : SoFar t before mid) where
             ∙ ap (λ s. decision (desk t mid) s h.turn) (sym (state_on t before mid so.turns (replies t before so.turns) so.talk answered))
             ∙ h.wanted;
         wrote = h.wrote;
-        left = leaves_more before.waits mid.waits now.waits (cmd_of before.number h.turn.at h.act ∷ []) so.waits (subst P so.talk.number h.left);
+        left = leaves_more before.waits mid.waits now.waits
+            (cmd_with before.number h.turn.at (state_after (state_behind t before (so.turns ++ answered)) h.turn.others) h.act h.bytes ∷ []) so.waits
+            (subst Q there (subst P so.talk.number h.left));
       }
+
+  broken_off_on : (answered broken : List Turn) (part : List ℕ) → IsBrokenOff t mid answered broken part → IsBrokenOff t before (so.turns ++ answered) broken part
+  broken_off_on answered broken part h =
+      let P : List ℕ → Type 0 = λ text. IsPart text part in
+      (h.0, h.1, h.2, h.3, subst P (text_on answered broken) h.4)
 
   total_on : (n k m a c max : ℕ) → m ≡ n + k → c ≡ k + a → m + a ≡ max → n + c ≡ max
   total_on n k m a c max e f g = omega (arith, e, f, g)
@@ -106,9 +122,14 @@ module _ (t : Terms) (before mid now : Moment) (so : SoFar t before mid) where
   ends_on ReadFault answered broken behind rest part h = (h.0, h.1, rose_since before.read_faults mid.read_faults now.read_faults so.read_later h.2)
   ends_on WriteFault answered broken behind rest part h =
       (h.0, written_on answered broken rest h.0 h.1, h.2, rose_since before.write_faults mid.write_faults now.write_faults so.write_later h.3)
-  ends_on DiskFault answered broken behind rest part h =
-      (h.0, stopped_on answered behind rest part h.1, rose_since before.port_faults mid.port_faults now.port_faults so.port_later h.2)
-  ends_on NoMemory answered broken behind rest part h = h
+  ends_on DiskFault answered broken behind rest part (inl stopped, rose) =
+      (inl (stopped.0, stopped_on answered behind rest part stopped.1), rose_since before.port_faults mid.port_faults now.port_faults so.port_later rose)
+  ends_on DiskFault answered broken behind rest part (inr off, rose) = (
+    inr (broken_off_on answered broken part off.0, leaves_more before.waits mid.waits now.waits [] so.waits off.1),
+    rose_since before.port_faults mid.port_faults now.port_faults so.port_later rose,
+  )
+  ends_on NoMemory answered broken behind rest part (inl h) = inl h
+  ends_on NoMemory answered broken behind rest part (inr off) = inr (broken_off_on answered broken part off)
   ends_on Spent answered broken behind rest part h =
       (h.0, h.1, h.2, total_on before.count (length so.turns) mid.count (length answered) (length (so.turns ++ answered)) _ so.counted (length-append so.turns answered) h.3)
 
@@ -124,6 +145,7 @@ module _ (t : Terms) (before mid now : Moment) (so : SoFar t before mid) where
       let all = talk_on t before mid so.turns first so.talk now (h.answered ++ h.broken) h.behind h.rest (replies t mid h.answered ++ h.part) h.talk in
       let P : List Turn → Type 0 = λ l. Talk t before now l h.behind h.rest (first ++ (replies t mid h.answered ++ h.part)) in
       let Q : List ℕ → Type 0 = λ x. Talk t before now ((so.turns ++ h.answered) ++ h.broken) h.behind h.rest x in
+      let R : List Turn → Type 0 = λ l. Stored t before now l in
       record {
         answered = so.turns ++ h.answered;
         broken = h.broken;
@@ -133,6 +155,9 @@ module _ (t : Terms) (before mid now : Moment) (so : SoFar t before mid) where
         talk = subst Q (sym (append_assoc first (replies t mid h.answered) h.part)
             ∙ ap (λ l. l ++ h.part) (sym (replies_on t before mid so.turns first so.talk so.counted h.answered)))
             (subst P (sym (append_assoc so.turns h.answered h.broken)) all);
+        stored = subst R (sym (append_assoc so.turns h.answered h.broken))
+            (stored_more t before mid so.turns first so.talk so.stored now (h.answered ++ h.broken) h.talk.each h.stored);
+        whole = All-append (λ turn. IsWhole turn.kind) so.turns h.answered so.whole h.whole;
         one = h.one;
         few = λ other. few_on before.count (length so.turns) mid.count (length h.answered) (length (so.turns ++ h.answered)) _ so.counted
             (length-append so.turns h.answered) (h.few other);
@@ -158,6 +183,13 @@ module _ (t : Terms) (before mid now : Moment) (so : SoFar t before mid) (turn :
   counted_turned =
       counted ∙ one_later before.count (length so.turns) mid.count (length (so.turns ++ turn ∷ [])) so.counted (length-append so.turns (turn ∷ []))
 
+  pub stored_turned : Stored t before now (so.turns ++ turn ∷ [])
+  stored_turned = stored_more t before mid so.turns (replies t before so.turns) so.talk so.stored now (turn ∷ []) h.talk.each h.stored
+
+  pub whole_turned : All (λ u. IsWhole u.kind) (so.turns ++ turn ∷ [])
+  whole_turned =
+      All-append (λ u. IsWhole u.kind) so.turns (turn ∷ []) so.whole (All-cons (λ u. IsWhole u.kind) turn [] h.whole (λ k d l. absurd (below_nothing k l)))
+
   pub one_going : asks_last turn.asked.head ≡ false → GoOn (turn ∷ [])
   one_going goes = All-cons (λ u. asks_last u.asked.head ≡ false) turn [] goes (λ k d l. absurd (below_nothing k l))
 
@@ -166,6 +198,8 @@ module _ (t : Terms) (before mid now : Moment) (so : SoFar t before mid) (turn :
   so_far_on goes = record {
     turns = so.turns ++ turn ∷ [];
     talk = talk_turned;
+    stored = stored_turned;
+    whole = whole_turned;
     counted = counted_turned;
     waits = leaves_more before.waits mid.waits now.waits [] so.waits h.waits;
     going = All-append (λ u. asks_last u.asked.head ≡ false) so.turns (turn ∷ []) so.going (one_going goes);
@@ -191,15 +225,17 @@ whole t before now turns h =
 
 -- a connection whose requests are all answered, as it ends by the number of them, or by the last one's asking
 serve_whole : (end : ConnEnd) (t : Terms) (before now : Moment) (turns : List Turn) → Talk t before now turns [] now.unread (replies t before turns)
-    → Leaves before.waits [] now.waits → (end ≢ Spent → before.count + length turns < 1000000)
+    → Stored t before now turns → All (λ turn. IsWhole turn.kind) turns → Leaves before.waits [] now.waits → (end ≢ Spent → before.count + length turns < 1000000)
     → (GoOn turns ⊎ (EndsLast turns × ((end ≡ Ended) ⊎ (end ≡ Spent)))) → EndsBy end t before now turns [] [] now.unread [] → Served t before now end
-serve_whole end t before now turns h waits few going ends = record {
+serve_whole end t before now turns h stored all waits few going ends = record {
   answered = turns;
   broken = [];
   behind = [];
   rest = now.unread;
   part = [];
   talk = whole t before now turns h;
+  stored = subst (λ (l : List Turn). Stored t before now l) (sym (append-nil turns)) stored;
+  whole = all;
   one = nothing_le_one;
   few = few;
   going = going;
@@ -211,7 +247,7 @@ serve_whole end t before now turns h waits few going ends = record {
 -- as many requests were answered as a connection may have, and none asked that it end
 pub serve_full : (t : Terms) (before now : Moment) → SoFar t before now → now.count ≡ 1000000 → Served t before now Spent
 serve_full t before now so full =
-    serve_whole Spent t before now so.turns so.talk so.waits (λ other. absurd (other refl)) (inl so.going) (refl, refl, refl, sym so.counted ∙ full)
+    serve_whole Spent t before now so.turns so.talk so.stored so.whole so.waits (λ other. absurd (other refl)) (inl so.going) (refl, refl, refl, sym so.counted ∙ full)
 
 module _ (t : Terms) (before mid now : Moment) (so : SoFar t before mid) (turn : Turn) (h : Turned t mid now turn) (counted : now.count ≡ mid.count + 1) where
   waits_turned : Leaves before.waits [] now.waits
@@ -226,7 +262,8 @@ module _ (t : Terms) (before mid now : Moment) (so : SoFar t before mid) (turn :
       let turns = so.turns ++ turn ∷ [] in
       let number = counted_turned t before mid now so turn h counted in
       let P : ℕ → Type 0 = λ n. n < 1000000 in
-      serve_whole Ended t before now turns (talk_turned t before mid now so turn h counted) waits_turned (λ _. subst P number few)
+      serve_whole Ended t before now turns (talk_turned t before mid now so turn h counted) (stored_turned t before mid now so turn h counted)
+      (whole_turned t before mid now so turn h counted) waits_turned (λ _. subst P number few)
       (inr (last_turned asked, inl refl)) (refl, refl, refl, inr (last_turned asked))
 
   spent_going : (asked : Bool) → asks_last turn.asked.head ≡ asked
@@ -239,7 +276,8 @@ module _ (t : Terms) (before mid now : Moment) (so : SoFar t before mid) (turn :
   serve_spent full =
       let turns = so.turns ++ turn ∷ [] in
       let number = counted_turned t before mid now so turn h counted in
-      serve_whole Spent t before now turns (talk_turned t before mid now so turn h counted) waits_turned (λ other. absurd (other refl))
+      serve_whole Spent t before now turns (talk_turned t before mid now so turn h counted) (stored_turned t before mid now so turn h counted)
+      (whole_turned t before mid now so turn h counted) waits_turned (λ other. absurd (other refl))
       (spent_going (asks_last turn.asked.head) refl) (refl, refl, refl, sym number ∙ full)
 
 -- ---- one request, from the moment before it on
@@ -251,9 +289,9 @@ count_on n m l = omega (arith, l)
 pub serve_none : (end : ConnEnd) (t : Terms) (old new : Moment) (bytes part : List ℕ) (behind : List Cmd)
     → new.given ≡ append_known old.given bytes → old.left ≡ prepend_known bytes new.left → new.held ≡ append_known old.held part
     → new.seen ≡ with_more old.seen behind → new.number ≡ old.number → (end ≢ DiskFault → Leaves old.waits [] new.waits)
-    → (IsTrue t.alone → behind ≡ []) → old.count < 1000000
+    → (IsTrue t.alone → behind ≡ []) → (IsTrue t.alone → KeepsPieces (first old) old.blocks new.blocks) → old.count < 1000000
     → EndsBy end t old new [] [] behind (old.unread ++ bytes) part → Served t old new end
-serve_none end t old new bytes part behind gave took wrote history number waits mine few ends = record {
+serve_none end t old new bytes part behind gave took wrote history number waits mine keeps few ends = record {
   answered = [];
   broken = [];
   behind = behind;
@@ -269,6 +307,8 @@ serve_none end t old new bytes part behind gave took wrote history number waits 
     number = number;
     each = λ k d l. absurd (below_nothing k l);
   };
+  stored = stored_idle t old new keeps;
+  whole = λ k d l. absurd (below_nothing k l);
   one = nothing_le_one;
   few = λ _. count_on old.count 1000000 few;
   going = inl (λ k d l. absurd (below_nothing k l));
@@ -284,7 +324,7 @@ stop_ends Cut t old new others rest part h = (refl, h.0, h.1)
 stop_ends Bad t old new others rest part h = (refl, h)
 stop_ends ReadFault t old new others rest part h = (refl, h.0, h.1)
 stop_ends WriteFault t old new others rest part h = (h.0, inr (refl, h.1), h.2, h.3)
-stop_ends NoMemory t old new others rest part h = (refl, h)
+stop_ends NoMemory t old new others rest part h = inl (refl, h)
 stop_ends DiskFault t old new others rest part h = absurd h
 stop_ends Spent t old new others rest part h = absurd h
 
@@ -292,13 +332,14 @@ stop_ends Spent t old new others rest part h = absurd h
 pub serve_stopped : (end : ConnEnd) (t : Terms) (old new : Moment) → Stops t old new end → old.count < 1000000 → Served t old new end
 serve_stopped end t old new h few =
     let passes = h.passes in
-    serve_none end t old new h.bytes h.part passes.others passes.gave passes.took passes.wrote passes.grown passes.number (λ _. inl passes.waits) passes.mine few
+    serve_none end t old new h.bytes h.part passes.others passes.gave passes.took passes.wrote passes.grown passes.number (λ _. inl passes.waits) passes.mine
+    (λ _. keeps_same (first old) old.blocks new.blocks passes.blocks) few
     (stop_ends end t old new passes.others (old.unread ++ h.bytes) h.part h.stops)
 
 module _ (t : Terms) (old new : Moment) (turn : Turn) (bytes : List ℕ) (begins : BeginsWithBody (old.unread ++ bytes) turn.asked (done new.unread))
     (gave : new.given ≡ append_known old.given bytes) (took : old.left ≡ prepend_known bytes new.left)
     (history : new.seen ≡ with_more old.seen (gained_in (desk t old) (first old) turn)) (number : new.number ≡ old.number) (is : IsTurn t turn)
-    (waits : Leaves old.waits [] new.waits) where
+    (stored : Stored t old new (turn ∷ [])) (waits : Leaves old.waits [] new.waits) where
   talk_one : (text : List ℕ) → new.held ≡ append_known old.held text → Talk t old new (turn ∷ []) [] new.unread text
   talk_one text wrote = record {
     bytes = bytes;
@@ -314,13 +355,19 @@ module _ (t : Terms) (old new : Moment) (turn : Turn) (bytes : List ℕ) (begins
   one_text : (text : List ℕ) → text ≡ text_in (desk t old) (first old) (old.count + 1) turn → text ≡ replies t old (turn ∷ [])
   one_text text told = told ∙ sym (append-nil (text_in (desk t old) (first old) (old.count + 1) turn))
 
+  -- the text of its reply, as that of a reply which may not be written whole
+  pub text_behind : (text : List ℕ) → text ≡ text_in (desk t old) (first old) (old.count + 1) turn → text ≡ replies_behind t old [] (turn ∷ [])
+  text_behind text told = one_text text told ∙ ap (λ n. texts (desk t old) (first old) n (turn ∷ [])) (none_on (old.count + 1))
+
   -- it was answered
-  pub turned : (text : List ℕ) → new.held ≡ append_known old.held text → text ≡ text_in (desk t old) (first old) (old.count + 1) turn
+  pub turned : (text : List ℕ) → new.held ≡ append_known old.held text → text ≡ text_in (desk t old) (first old) (old.count + 1) turn → IsWhole turn.kind
       → old.port_faults ≤ new.port_faults → old.read_faults ≤ new.read_faults → old.write_faults ≤ new.write_faults → Turned t old new turn
-  turned text wrote told port_later read_later write_later =
+  turned text wrote told all port_later read_later write_later =
       let P : List ℕ → Type 0 = λ x. Talk t old new (turn ∷ []) [] new.unread x in
       record {
         talk = subst P (one_text text told) (talk_one text wrote);
+        stored = stored;
+        whole = all;
         waits = waits;
         port_later = port_later;
         read_later = read_later;
@@ -328,19 +375,21 @@ module _ (t : Terms) (old new : Moment) (turn : Turn) (bytes : List ℕ) (begins
       }
 
   -- its reply was not written whole
-  pub serve_broken : (text part : List ℕ) → new.held ≡ append_known old.held part → text ≡ text_in (desk t old) (first old) (old.count + 1) turn
-      → IsPart text part → Rose old.write_faults new.write_faults → old.count < 1000000 → Served t old new WriteFault
-  serve_broken text part wrote told some rose few = record {
+  pub serve_broken : (end : ConnEnd) (part : List ℕ) → new.held ≡ append_known old.held part → EndsBy end t old new [] (turn ∷ []) [] new.unread part
+      → old.count < 1000000 → Served t old new end
+  serve_broken end part wrote ends few = record {
     answered = [];
     broken = turn ∷ [];
     behind = [];
     rest = new.unread;
     part = part;
     talk = talk_one part wrote;
+    stored = stored;
+    whole = λ k d l. absurd (below_nothing k l);
     one = one_le_one;
     few = λ _. count_on old.count 1000000 few;
     going = inl (λ k d l. absurd (below_nothing k l));
     mine = λ _. refl;
     waits = λ _. waits;
-    ends = (text, inl (one_text text told ∙ ap (λ n. texts (desk t old) (first old) n (turn ∷ [])) (none_on (old.count + 1))), some, rose);
+    ends = ends;
   }

@@ -1,17 +1,20 @@
 -- A talk goes on: what is done from a moment on comes behind what was done up to it.
-use Rattle.std.proofs.Common.{◌≡◌, ℕ, ◌+◌, ◌<◌, ◌≤◌, arith, List, [], ◌∷◌, ◌++◌, Option, None, Some, length, refl, sym, ◌∙◌, ap, subst, append_assoc, append-nil, inl, inr}
+use Rattle.std.proofs.Common.{◌≡◌, ℕ, ◌+◌, ◌<◌, ◌≤◌, arith, List, [], ◌∷◌, ◌++◌, All, Option, None, Some, IsTrue, length, refl, sym, ◌∙◌, ap, subst, append_assoc, append-nil, inl, inr}
 use Rattle.std.proofs.lemmas.List.Elements.{All-append}
 use Rattle.std.specs.Io.KnownBytes.{append_known, prepend_known}
 use Rattle.fh_world.specs.Causes.{Rose}
 use Rattle.fh_model.specs.declared.commands.Cmd.{Cmd}
 use Rattle.fh_model.specs.History.{state_of, state_after, with_more}
+use Rattle.fh_model.specs.Pieces.{SamePieces}
+use Rattle.fh_model.specs.State.{State}
 use Rattle.fh_model.proofs.Runs.{state_more, with_more_more, state_after-append}
-use Rattle.host_seat.specs.Port.{Leaves}
+use Rattle.host_seat.specs.Port.{KeepsPieces, Leaves, OfBoth}
 use Rattle.http_in.specs.Requests.{Request}
-use Rattle.session_rules.specs.Connection.{Turn, texts, gained}
+use Rattle.session_rules.specs.Connection.{Desk, Turn, texts, gained, IsStored, SendAll}
+use Rattle.session_rules.proofs.Blocks.{SendAll-append, stored_none, stored_on}
 use Rattle.session_rules.proofs.Turns.{gained-append, texts-append}
 use Rattle.session_http.specs.Begun.{Begins, stay}
-use Rattle.session_http.specs.Talk.{Terms, Moment, IsTurn, Talk, desk, requests, first, added, state_behind, replies}
+use Rattle.session_http.specs.Talk.{Terms, Moment, IsAlone, IsTurn, Stored, Talk, desk, requests, first, added, state_behind, replies}
 use Rattle.session_http.proofs.Begun.{begins_more, begins_on}
 
 pub known_more : (o : Option (List ℕ)) (a b : List ℕ) → append_known (append_known o a) b ≡ append_known o (a ++ b)
@@ -50,6 +53,35 @@ talk_starts t m =
       number = refl;
       each = λ k d h. absurd (below_nothing k h);
     }
+
+-- ---- the block file
+
+-- what follows from a block file to the next, and from that to a third
+both_on : (P Q R : List ℕ → List ℕ → Type 0) (x y z : Option (List ℕ)) → ((a b c : List ℕ) → P a b → Q b c → R a c) → OfBoth P x y → OfBoth Q y z → OfBoth R x z
+both_on P Q R None None None is p q = tt
+both_on P Q R None None (Some c) is p q = q
+both_on P Q R None (Some b) z is p q = absurd p
+both_on P Q R (Some a) None z is p q = absurd p
+both_on P Q R (Some a) (Some b) None is p q = q
+both_on P Q R (Some a) (Some b) (Some c) is p q = is a b c p q
+
+pub both_map : (P R : List ℕ → List ℕ → Type 0) (x y : Option (List ℕ)) → ((a b : List ℕ) → P a b → R a b) → OfBoth P x y → OfBoth R x y
+both_map P R None None is p = tt
+both_map P R None (Some b) is p = p
+both_map P R (Some a) None is p = p
+both_map P R (Some a) (Some b) is p = is a b p
+
+-- no request was answered, and the pieces stayed as they were
+pub stored_idle : (t : Terms) (before now : Moment) → (IsTrue t.alone → KeepsPieces (first before) before.blocks now.blocks) → Stored t before now []
+stored_idle t before now keeps = record {
+  sends = tt;
+  blocks = λ alone. both_map (λ old new. SamePieces (first before) new old) (IsStored (desk t before) (first before) []) before.blocks now.blocks
+      (stored_none (desk t before) (first before)) (keeps alone);
+}
+
+-- where the port is alone, nobody else's commands came in any turn
+pub all_alone : (t : Terms) (turns : List Turn) → All (IsTurn t) turns → IsTrue t.alone → All IsAlone turns
+all_alone t turns each alone = λ k d less. (each k d less).mine alone
 
 module _ (t : Terms) (before mid : Moment) (turns : List Turn) (text : List ℕ) (h : Talk t before mid turns [] mid.unread text) where
   -- what the port has seen is what these requests added
@@ -110,6 +142,23 @@ module _ (t : Terms) (before mid : Moment) (turns : List Turn) (text : List ℕ)
             ∙ ap (with_more before.seen) (sym (append_assoc (added t before turns) (added t mid more) behind) ∙ ap (λ l. l ++ behind) (sym (added_all more)));
         number = g.number ∙ h.number;
         each = All-append (IsTurn t) turns more h.each g.each;
+      }
+
+  -- more requests behind them
+  pub stored_more : Stored t before mid turns → (now : Moment) (more : List Turn) → All (IsTurn t) more → Stored t mid now more → Stored t before now (turns ++ more)
+  stored_more stored now more each next =
+      let d = desk t before in
+      let s = first before in
+      let P : Desk → Type 0 = λ e. SendAll e (first mid) more in
+      let Q : State → Type 0 = λ u. SendAll d u more in
+      let sends : SendAll d (state_behind t before turns) more = subst Q talk_state (subst P same_desk next.sends) in
+      let R : Desk → Type 0 = λ e. OfBoth (IsStored e (first mid) more) mid.blocks now.blocks in
+      let T : State → Type 0 = λ u. OfBoth (IsStored d u more) mid.blocks now.blocks in
+      record {
+        sends = SendAll-append d s turns more stored.sends sends;
+        blocks = λ alone. both_on (IsStored d s turns) (IsStored d (state_behind t before turns) more) (IsStored d s (turns ++ more)) before.blocks mid.blocks now.blocks
+            (λ x y z p q. stored_on d s turns more x y z (all_alone t turns h.each alone) (all_alone t more each alone) sends p q)
+            (stored.blocks alone) (subst T talk_state (subst R same_desk (next.blocks alone)));
       }
 
 -- what waits after one more call

@@ -5,15 +5,16 @@ use Rattle.fh_world.specs.Causes.{Rose}
 use Rattle.fh_model.specs.declared.commands.Act.{Act}
 use Rattle.fh_model.specs.declared.commands.Cmd.{Cmd}
 use Rattle.fh_model.specs.declared.limits.TheConstants.{REQUESTS_MAX}
+use Rattle.fh_model.specs.History.{state_after}
 use Rattle.host_seat.specs.Port.{Leaves}
 use Rattle.http_in.specs.Bodies.{done}
 use Rattle.http_in.specs.Requests.{BeginsWithBody}
 use Rattle.session_rules.specs.Asked.{asks_last}
-use Rattle.session_rules.specs.Connection.{Turn, cmd_of, decision, interim_of}
+use Rattle.session_rules.specs.Connection.{Turn, broken_off, cmd_with, decision, interim_of}
 use Rattle.session_rules.specs.Decisions.{enters}
 use Rattle.session_rules.specs.Replies.{Said, out_of_memory, text_of}
 use Rattle.session_http.specs.Begun.{IsBegun, IsCutShort, IsGreeted, IsOpened, IsRefused}
-use Rattle.session_http.specs.Talk.{Terms, Moment, IsTurn, Talk, desk, replies, replies_behind, state_behind}
+use Rattle.session_http.specs.Talk.{Terms, Moment, IsTurn, IsWhole, Stored, Talk, desk, replies, replies_behind, state_behind}
 use Rattle.session_http.specs.declared.conn.ConnEnd.{ConnEnd}
 use Rattle.session_http.specs.declared.conn.ConnEnd.TheVariants.{Ended, Cut, Bad, ReadFault, WriteFault, DiskFault, NoMemory, Spent}
 
@@ -43,13 +44,20 @@ IsWritten t before answered broken rest text =
 pub record IsStopped (t : Terms) (before now : Moment) (answered : List Turn) (behind : List Cmd) (rest part : List ℕ) : Type 0 where
   pub turn : Turn
   pub act : Act
+  pub bytes : List ℕ
   pub after : List ℕ
   pub begins : BeginsWithBody rest turn.asked (done after)
   pub is : IsTurn t turn
   pub entered : behind ≡ turn.others ++ turn.between
-  pub wanted : decision (desk t before) (state_behind t before answered) turn ≡ enters act
+  pub wanted : decision (desk t before) (state_behind t before answered) turn ≡ enters act bytes
   pub wrote : part ≡ interim_of turn.asked.head
-  pub left : Leaves before.waits (cmd_of before.number turn.at act ∷ []) now.waits
+  pub left : Leaves before.waits (cmd_with before.number turn.at (state_after (state_behind t before answered) turn.others) act bytes ∷ []) now.waits
+
+-- Of the content that a request asks for only the first pieces were fetched, and some of its reply from its start was
+-- written.
+abbrev pub IsBrokenOff : Terms → Moment → List Turn → List Turn → List ℕ → Type 0
+IsBrokenOff t before answered broken part =
+    (turn : Turn) × (n : ℕ) × (broken ≡ turn ∷ []) × (turn.kind ≡ broken_off n) × IsPart (replies_behind t before answered broken) part
 
 -- Why a connection may end so. `answered` are the requests whose replies were written, `broken` is the one whose reply
 -- was not written whole, `behind` what others entered since, `rest` what was read behind the requests, and `part` what
@@ -63,8 +71,11 @@ EndsBy ReadFault t before now answered broken behind rest part = (broken ≡ [])
 EndsBy WriteFault t before now answered broken behind rest part =
     (text : List ℕ) × IsWritten t before answered broken rest text × IsPart text part × Rose before.write_faults now.write_faults
 EndsBy DiskFault t before now answered broken behind rest part =
-    (broken ≡ []) × IsStopped t before now answered behind rest part × Rose before.port_faults now.port_faults
-EndsBy NoMemory t before now answered broken behind rest part = (broken ≡ []) × IsBegun rest part
+    (((broken ≡ []) × IsStopped t before now answered behind rest part)
+    ⊎ (IsBrokenOff t before answered broken part × Leaves before.waits [] now.waits))
+    × Rose before.port_faults now.port_faults
+EndsBy NoMemory t before now answered broken behind rest part =
+    ((broken ≡ []) × IsBegun rest part) ⊎ IsBrokenOff t before answered broken part
 EndsBy Spent t before now answered broken behind rest part = (broken ≡ []) × (behind ≡ []) × (part ≡ []) × (before.count + length answered ≡ REQUESTS_MAX)
 
 -- all that a connection did
@@ -75,6 +86,9 @@ pub record Served (t : Terms) (before now : Moment) (end : ConnEnd) : Type 0 whe
   pub rest : List ℕ
   pub part : List ℕ
   pub talk : Talk t before now (answered ++ broken) behind rest (replies t before answered ++ part)
+  -- a content may be broken off in the one that was not written whole alone
+  pub stored : Stored t before now (answered ++ broken)
+  pub whole : All (λ turn. IsWhole turn.kind) answered
   pub one : length broken ≤ 1
   pub few : end ≢ Spent → before.count + length answered < REQUESTS_MAX
   -- nothing is read behind a request that ends the connection

@@ -3,6 +3,7 @@ pub mod Bodies
 pub mod Conn
 pub mod Ends
 pub mod Points
+pub mod Sending
 pub mod Spell
 pub mod Steps
 pub mod Talk

@@ -13,14 +13,15 @@ use Rattle.http_in.specs.Bodies.{done}
 use Rattle.http_in.specs.Heads.{BeginsWithHead}
 use Rattle.http_in.specs.Parts.{IsHeadOf}
 use Rattle.http_in.specs.Requests.{Request, BeginsWithBody}
-use Rattle.session_rules.specs.Asked.{asks_last, token_in}
+use Rattle.session_rules.specs.Asked.{arg_in, asks_last, token_in}
 use Rattle.session_rules.specs.Connection.{Turn, interim_of}
 use Rattle.session_rules.specs.Decisions.{Called, called}
 use Rattle.session_rules.specs.Replies.{Said, text_of, out_of_memory}
 use Rattle.session_http.specs.Begun.{IsBegun, IsCutShort, IsGreeted, IsOpened}
 use Rattle.session_http.specs.Bodies.{Holds as HoldsContent}
+use Rattle.session_http.specs.declared.bodies.Body.{Body}
 use Rattle.session_http.specs.Ends.{IsLastText, IsPart}
-use Rattle.session_http.specs.Talk.{Terms, Moment, Talk, replies}
+use Rattle.session_http.specs.Talk.{Terms, Moment, Talk, Stored, IsWhole, replies}
 use Rattle.session_http.specs.declared.conn.ConnEnd.{ConnEnd}
 use Rattle.session_http.specs.declared.conn.ConnEnd.TheVariants.{Ended, Cut, Bad, ReadFault, WriteFault, DiskFault, NoMemory, Spent}
 
@@ -49,6 +50,8 @@ SaysLast held faults old new it Spent = ⊥
 -- one request was served from a moment to the next
 pub record Turned (t : Terms) (old new : Moment) (turn : Turn) : Type 0 where
   pub talk : Talk t old new (turn ∷ []) [] new.unread (replies t old (turn ∷ []))
+  pub stored : Stored t old new (turn ∷ [])
+  pub whole : IsWhole turn.kind
   pub waits : Leaves old.waits [] new.waits
   pub port_later : old.port_faults ≤ new.port_faults
   pub read_later : old.read_faults ≤ new.read_faults
@@ -81,6 +84,7 @@ pub record Passes (t : Terms) (old new : Moment) (bytes text : List ℕ) : Type 
   pub grown : new.seen ≡ with_more old.seen others
   pub mine : IsTrue t.alone → others ≡ []
   pub waits : new.waits ≡ old.waits
+  pub blocks : new.blocks ≡ old.blocks
   pub number : new.number ≡ old.number
   pub count : new.count ≡ old.count
   pub port_faults : new.port_faults ≡ old.port_faults
@@ -101,14 +105,15 @@ pub record Opens (t : Terms) (old new : Moment) (call : Option Called) (head : H
   pub known : IsKnown t.admin (state_of new.seen) asked call
 
 -- a request was read whole, with its interim text written, and who calls was decided on the way
-pub record Hears (t : Terms) (old new : Moment) (call : Option Called) (last : Bool) (kept : Option (List ℕ)) : Type 0 where
+pub record Hears (t : Terms) (old new : Moment) (call : Option Called) (last : Bool) (arg : Option (List ℕ)) (body : Body) (kept : List ℕ) : Type 0 where
   pub asked : Request
   pub bytes : List ℕ
   pub passes : Passes t old new bytes (interim_of asked.head)
   pub begins : BeginsWithBody (old.unread ++ bytes) asked (done new.unread)
   pub known : IsKnown t.admin (state_of new.seen) asked.head call
   pub asked_last : last ≡ asks_last asked.head
-  pub holds : HoldsContent kept asked.content
+  pub argued : arg ≡ arg_in asked.head
+  pub holds : HoldsContent body kept asked.content
 
 -- no whole request was read
 pub record Stops (t : Terms) (old new : Moment) (end : ConnEnd) : Type 0 where

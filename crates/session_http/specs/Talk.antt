@@ -7,8 +7,9 @@ use Rattle.fh_model.specs.declared.commands.Cmd.{Cmd}
 use Rattle.fh_model.specs.History.{Kept, state_of, state_after, with_more}
 use Rattle.fh_model.specs.State.{State}
 use Rattle.host_seat.specs.declared.view.View as view
+use Rattle.host_seat.specs.Port.{OfBoth}
 use Rattle.http_in.specs.Requests.{Request}
-use Rattle.session_rules.specs.Connection.{Desk, Turn, texts, gained}
+use Rattle.session_rules.specs.Connection.{Desk, Turn, Kind, told, broken_off, unavailable, texts, gained, IsStored, SendAll}
 use Rattle.session_http.specs.Begun.{Begins}
 
 -- what holds for a connection from its start to its end: whether nobody else lets commands enter, the clock's second
@@ -21,11 +22,12 @@ pub record Terms : Type 0 where
 abbrev pub terms : Bool → Option ℕ → List ℕ → Terms
 terms alone second admin = record { alone = alone; second = second; admin = admin }
 
--- what is known at a moment of the port, of the source and of the sink, where they tell it, how many requests of the
--- connection were answered, and what was read of it behind these
+-- what is known at a moment of the port, its block file among that, of the source and of the sink, where they tell it,
+-- how many requests of the connection were answered, and what was read of it behind these
 pub record Moment : Type 0 where
   pub seen : Kept
   pub waits : List Cmd
+  pub blocks : Option (List ℕ)
   pub number : ℕ
   pub port_faults : ℕ
   pub given : Option (List ℕ)
@@ -40,6 +42,7 @@ abbrev pub moment : {P S K : Type 0} → view.Ghosts P → source.Ghosts S → s
 moment of_port of_source of_sink p s k count unread = record {
   seen = of_port.seen p;
   waits = of_port.waits p;
+  blocks = of_port.blocks p;
   number = of_port.number p;
   port_faults = of_port.faults p;
   given = of_source.given s;
@@ -51,10 +54,20 @@ moment of_port of_source of_sink p s k count unread = record {
   unread = unread;
 }
 
--- its command is at the clock's second, and nobody else's came before it where the port is alone
+-- nobody else's commands came in it
+abbrev pub IsAlone : Turn → Type 0
+IsAlone turn = (turn.others ≡ []) × (turn.between ≡ []) × (turn.after ≡ [])
+
+-- its command is at the clock's second, and nobody else's came where the port is alone
 pub record IsTurn (t : Terms) (turn : Turn) : Type 0 where
   pub timed : IfSome t.second (λ s. turn.at ≡ s)
-  pub mine : IsTrue t.alone → (turn.others ≡ []) × (turn.between ≡ [])
+  pub mine : IsTrue t.alone → IsAlone turn
+
+-- all of a content that it asks for was fetched
+abbrev pub IsWhole : Kind → Type 0
+IsWhole told = Unit {0}
+IsWhole (broken_off n) = ⊥
+IsWhole (unavailable any) = Unit {0}
 
 -- the machine that the port had seen at the start
 abbrev pub first : Moment → State
@@ -93,3 +106,9 @@ pub record Talk (t : Terms) (before now : Moment) (turns : List Turn) (behind : 
   pub history : now.seen ≡ with_more before.seen (added t before turns ++ behind)
   pub number : now.number ≡ before.number
   pub each : All (IsTurn t) turns
+
+-- The contents that were sent are those that the requests ask for. Where the port is alone and tells its block file, this
+-- is as the requests made it.
+pub record Stored (t : Terms) (before now : Moment) (turns : List Turn) : Type 0 where
+  pub sends : SendAll (desk t before) (first before) turns
+  pub blocks : IsTrue t.alone → OfBoth (IsStored (desk t before) (first before) turns) before.blocks now.blocks

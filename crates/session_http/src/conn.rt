@@ -22,7 +22,7 @@ pub enum ConnEnd {
     /// The sink failed.
     WriteFault,
 
-    /// The disk failed as a command was to enter.
+    /// The disk failed as a command was to enter, or as a content was sent.
     DiskFault,
 
     /// Memory was wanting.
@@ -59,6 +59,9 @@ pub struct Conn<S, K> {
     pub(crate) sink: K,
     pub(crate) reader: Reader,
 
+    /// The room for the body of a request, which is used again for the next.
+    pub(crate) buffer: Vec<u8>,
+
     /// How many requests were answered.
     pub(crate) answered: u64,
     pub(crate) alloc: Global,
@@ -78,6 +81,7 @@ impl<S, K> Conn<S, K> {
                 source,
                 sink,
                 reader,
+                buffer: Vec::new(alloc),
                 answered: 0,
                 alloc,
             }),

@@ -1,5 +1,6 @@
 //! Reads the next request of a connection, and decides on the way who calls which route.
-ghost use Rattle.std.specs.Prelude.{◌≡◌, ◌≤◌, [], true, IsTrue, IfOk, OnOk, OnErr, IfErr, IfSome, option_map};
+ghost use Rattle.std.specs.Prelude.{◌≡◌, ◌≤◌, length, true, IsTrue, IfOk, OnOk, OnErr, IfErr, IfSome, option_map};
+ghost use Rattle.fh_model.specs.declared.limits.TheConstants.{BLOCK_BYTES};
 ghost use Rattle.fh_world.specs.Bytes.{Holds};
 ghost use Rattle.http_in.specs.Parts.{limit_of};
 ghost use Rattle.http_in.specs.Stands.{place_of};
@@ -11,7 +12,7 @@ ghost use Rattle.session_http.specs.Steps.{Breaks, Hears, Opens, SaysLast, Stops
 ghost use Rattle.session_http.specs.Talk.{moment, terms};
 
 use crate::answering::{Call, find_caller};
-use crate::bodies::read_body;
+use crate::bodies::{Body, read_body};
 use crate::conn::{Conn, ConnEnd};
 use fh_model::{LAST_SECOND, NoMemory, Text};
 use fh_world::{Clock, Failed, Sink, Source};
@@ -19,7 +20,6 @@ use host_seat::Port;
 use http_in::{BodyEnd, Head, State, Step};
 use http_out::out_of_memory;
 use session_rules::{bad_request_reply, body_too_large_reply, head_too_large_reply, interim};
-use std::alloc::Global;
 
 /// The room for a portion of a body.
 const PORTION_BYTES: usize = 4_096;
@@ -36,8 +36,11 @@ pub(crate) struct Heard {
     /// Whether the connection ends with its reply.
     pub(crate) last: bool,
 
-    /// Its body, where it was to be kept and memory served.
-    pub(crate) kept: Option<Vec<u8>>,
+    /// The argument in its header.
+    pub(crate) arg: Option<Vec<u8>>,
+
+    /// What the connection's buffer has of its body.
+    pub(crate) body: Body,
 }
 
 /// Writes a text.
@@ -85,13 +88,11 @@ fn refuse<K: Sink>(sink: &mut K, reply: Result<Vec<u8>, NoMemory>) -> ConnEnd
     }
 }
 
-/// A buffer for the body of a request, which is kept only where a user calls a route.
-fn buffer_for(alloc: Global, call: &Result<Call, NoMemory>) -> Option<Vec<u8>>
-    ensures { IfSome result (λ bytes. bytes.items ≡ []) }
-{
+/// Whether the body of a request is kept: where a user calls a route.
+fn keeps(call: &Result<Call, NoMemory>) -> bool {
     match call {
-        Ok(Ok(_)) => Some(Vec::new(alloc)),
-        _ => None,
+        Ok(Ok(_)) => true,
+        _ => false,
     }
 }
 
@@ -161,13 +162,14 @@ pub(crate) fn receive<P: Port, S: Source, K: Sink, C: Clock>(
     ensures ok { IfOk result (λ heard. Hears (terms P.alone (C.second clock.old) admin.now)
         (moment P.View S.Source K.Sink port.old (source_of conn.old) (sink_of conn.old) conn.old.answered conn.old.reader.held)
         (moment P.View S.Source K.Sink port.new (source_of conn.new) (sink_of conn.new) conn.new.answered conn.new.reader.held)
-        (called_if heard.call) heard.last (option_map (λ bytes. bytes.items) heard.kept)) }
+        (called_if heard.call) heard.last (option_map (λ bytes. bytes.items) heard.arg) heard.body conn.new.buffer.items) }
     ensures err { IfErr result (λ end. Stops (terms P.alone (C.second clock.old) admin.now)
         (moment P.View S.Source K.Sink port.old (source_of conn.old) (sink_of conn.old) conn.old.answered conn.old.reader.held)
         (moment P.View S.Source K.Sink port.new (source_of conn.new) (sink_of conn.new) conn.new.answered conn.new.reader.held) end) }
     ensures range { IfOk result (λ heard. heard.at ≤ LAST_SECOND) }
     ensures timed { IfOk result (λ heard. IfSome (C.second clock.old) (λ s. heard.at ≡ s)) }
     ensures between { OnOk result (conn.new.reader.state ≡ State.Between) }
+    ensures few { OnOk result (length conn.new.buffer.items ≤ BLOCK_BYTES) }
     ensures second { C.second clock.new ≡ C.second clock.old }
     ensures went { P.went port.old port.new }
     ensures source_place { S.place (source_of conn.new) ≡ S.place (source_of conn.old) }
@@ -179,15 +181,22 @@ pub(crate) fn receive<P: Port, S: Source, K: Sink, C: Clock>(
         Err(end) => return Err(end),
     };
     let Opened { head, at, call } = opened;
-    let kept = buffer_for(alloc, &call);
     let mut portion = [0u8; PORTION_BYTES];
-    let (end, kept) = read_body(&mut conn.reader, &mut conn.source, &mut portion, kept);
+    conn.buffer.clear();
+    let (end, body) = read_body(
+        &mut conn.reader,
+        &mut conn.source,
+        &mut portion,
+        keeps(&call),
+        &mut conn.buffer,
+    );
     match end {
         BodyEnd::Done => Ok(Heard {
             at,
             call,
             last: head.last,
-            kept,
+            arg: head.arg,
+            body,
         }),
         BodyEnd::Cut => Err(ConnEnd::Cut),
         BodyEnd::Bad => Err(refuse(&mut conn.sink, bad_request_reply(alloc))),

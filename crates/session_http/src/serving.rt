@@ -5,9 +5,10 @@ ghost use Rattle.session_http.specs.Ends.{Served};
 ghost use Rattle.session_http.specs.Steps.{GoesOn};
 ghost use Rattle.session_http.specs.Talk.{moment, terms};
 
-use crate::answering::respond;
+use crate::answering::{Answered, respond};
 use crate::conn::{Conn, ConnEnd};
 use crate::receiving::{Heard, receive, write};
+use crate::sending::send;
 use fh_model::{NoMemory, REQUESTS_MAX, Text};
 use fh_world::{Clock, Sink, Source};
 use host_seat::{CommitFault, Port};
@@ -55,7 +56,8 @@ fn serve_one<P: Port, S: Source, K: Sink, C: Clock>(
         at,
         call,
         last,
-        kept,
+        arg,
+        body,
     } = heard;
     conn.answered += 1;
     let close = is_last(last, conn.answered);
@@ -66,11 +68,18 @@ fn serve_one<P: Port, S: Source, K: Sink, C: Clock>(
             Err(end) => return Err(end),
         },
     };
-    match respond(alloc, port, at, call, kept, close) {
-        Ok(text) => match write(&mut conn.sink, &text) {
+    let taken = (body, conn.buffer.as_slice());
+    match respond(alloc, port, at, call, arg.as_deref(), taken, close) {
+        Ok(Answered::Text(text)) => match write(&mut conn.sink, &text) {
             Ok(()) => Ok(!last),
             Err(end) => Err(end),
         },
+        Ok(Answered::Content { head, rev, count }) => {
+            match send(port, &mut conn.sink, &head, rev, count) {
+                Ok(()) => Ok(!last),
+                Err(end) => Err(end),
+            }
+        }
         Err(CommitFault::NoMemory) => match write(&mut conn.sink, out_of_memory(close)) {
             Ok(()) => Ok(!last),
             Err(end) => Err(end),

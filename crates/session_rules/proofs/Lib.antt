@@ -1,1 +1,4 @@
+pub mod Arguments
+pub mod Blocks
 pub mod Turns
+pub mod Uploads

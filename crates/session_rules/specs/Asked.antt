@@ -10,6 +10,10 @@ use Rattle.http_in.specs.Parts.{awaits, limit_of, says, token_of}
 abbrev pub token_in : RequestHead → Option (List ℕ)
 token_in h = option_and_then token_of (field_of (codes "authorization") h)
 
+-- the argument that it carries
+abbrev pub arg_in : RequestHead → Option (List ℕ)
+arg_in h = field_of (codes "dropbox-api-arg") h
+
 -- the connection ends with its reply
 abbrev pub asks_last : RequestHead → Bool
 asks_last h = (h.minor == 0) || says (codes "close") (field_of (codes "connection") h)

@@ -1,16 +1,14 @@
-//! The order of refusals.
-ghost use Rattle.std.specs.Prelude.{◌≡◌, IfOk, IfErr, option_and_then, option_map};
+//! The order of refusals, as far as the head tells.
+ghost use Rattle.std.specs.Prelude.{◌≡◌, option_and_then, option_map};
 ghost use Rattle.fh_model.specs.History.{state_of};
 ghost use Rattle.fh_model.specs.State.{State, token_user};
-ghost use Rattle.session_rules.specs.Decisions.{argued, asked_for, called};
-ghost use Rattle.session_rules.specs.Judged.{IsCalled, IsDecision};
+ghost use Rattle.session_rules.specs.Decisions.{called};
+ghost use Rattle.session_rules.specs.Judged.{IsCalled};
 
-use api_json::{ArgumentFault, ReadFault, complaint, read};
-use api_types::{Request, Route};
-use fh_model::{Act, NoMemory, Text};
+use api_types::Route;
+use fh_model::Text;
 use http_in::Head;
 use name_core::Image;
-use std::alloc::Global;
 
 /// The user whose token the admin word is.
 const ADMIN: u64 = 1;
@@ -39,19 +37,6 @@ pub enum Caller {
 
     /// The user whose token it is, if there is one.
     Bearer(Route),
-}
-
-/// What a request comes to by its argument.
-#[derive(Debug, Drop)]
-pub enum Wish {
-    /// It is refused, with this plain text.
-    Refused(Vec<u8>),
-
-    /// A command is to enter.
-    Enter(Act),
-
-    /// A path is to be looked up for a user.
-    Look { user: u64, path: Text },
 }
 
 /// Decides by the head alone: the route, the method, and the token, of which the admin word is looked at first.
@@ -84,31 +69,4 @@ pub fn user_of(image: &Image, head: &Head) -> Option<u64>
         None => None,
         Some(token) => image.token_user(token),
     }
-}
-
-fn wish_for(user: u64, request: Request) -> Wish
-    ensures { IsDecision result (asked_for user request) }
-{
-    match request {
-        Request::CreateFolder { path, autorename } => Wish::Enter(Act::MakeFolder {
-            user,
-            path,
-            rename: autorename,
-        }),
-        Request::GetMetadata { path } => Wish::Look { user, path },
-    }
-}
-
-/// Decides by the argument, for a user who calls a route.
-pub fn wish_of(alloc: Global, route: Route, user: u64, body: &[u8]) -> Result<Wish, NoMemory>
-    ensures { IfOk result (λ wish. IsDecision wish (argued route user body.now)) }
-{
-    let fault = match read(alloc, route, body) {
-        Ok(request) => return Ok(wish_for(user, request)),
-        Err(ReadFault::BadJson) => ArgumentFault::BadJson,
-        Err(ReadFault::BadField { name }) => ArgumentFault::BadField { name },
-        Err(ReadFault::NoMemory) => return Err(NoMemory),
-    };
-    let text = complaint(alloc, route, fault)?;
-    Ok(Wish::Refused(text))
 }

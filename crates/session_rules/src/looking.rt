@@ -1,24 +1,45 @@
 //! What is answered of a reply of the machine, and of a look at it.
-ghost use Rattle.std.specs.Prelude.{◌≡◌, IfOk, List, ℕ, Bool, map};
-ghost use Rattle.fh_model.specs.declared.commands.Act.TheVariants as act;
+ghost use Rattle.std.specs.Prelude.{◌≡◌, IfOk, map};
 ghost use Rattle.fh_model.specs.History.{state_of};
-ghost use Rattle.fh_model.specs.Nodes.{id_of};
 ghost use Rattle.fh_model.specs.Resolve.{resolve};
-ghost use Rattle.session_rules.specs.Replies.{answer_at, answer_to, answer_to_look, error_of, path_error};
+ghost use Rattle.session_rules.specs.Replies.{answer_at, answer_in, answer_to_look, entry_at, error_of, form_of, path_error};
 
 use api_types::Answer;
-use fh_model::{Entry, Found, Items, Names, NoMemory, Node, Refusal, Reply, Text};
+use fh_model::{Act, Entry, Found, Items, Names, NoMemory, Node, Refusal, Reply, Text};
 use name_core::{Image, LookFault};
 use std::alloc::Global;
 
-/// What is told of the machine's reply to a folder that was to be made.
-pub fn folder_answer(reply: Reply) -> Answer
-    ensures { (user : ℕ) (path : List ℕ) (rename : Bool) → result ≡ answer_to (act.MakeFolder user path rename) reply }
+/// How the entry of an act is told.
+#[derive(Clone, Copy, Debug, PartialEq, Eq)]
+pub enum Form {
+    /// Under `metadata`, without its tag.
+    Wrapped,
+
+    /// By itself, without its tag.
+    Plain,
+}
+
+/// How the entry of this act is told.
+pub fn form_of(act: &Act) -> Form
+    ensures { result ≡ form_of act.now }
+{
+    match act {
+        Act::MakeFolder { .. } => Form::Wrapped,
+        Act::Upload { .. } => Form::Plain,
+    }
+}
+
+/// What is told of the machine's reply to an act whose entry is told in this form.
+pub fn act_answer(form: Form, reply: Reply) -> Answer
+    ensures { result ≡ answer_in reply form }
 {
     match reply {
-        Reply::Entry(entry) => Answer::Wrapped {
-            entry,
-            tagged: false,
+        Reply::Entry(entry) => match form {
+            Form::Wrapped => Answer::Wrapped {
+                entry,
+                tagged: false,
+            },
+            Form::Plain => Answer::Plain(entry),
         },
         Reply::Refused(refusal) => Answer::Error(refusal),
     }
@@ -39,30 +60,28 @@ pub(crate) fn error_of(alloc: Global, tags: &[&str]) -> Result<Answer, NoMemory>
     }))
 }
 
-fn path_error(alloc: Global, tag: &str) -> Result<Answer, NoMemory>
+pub(crate) fn path_error(alloc: Global, tag: &str) -> Result<Answer, NoMemory>
     ensures { IfOk result (λ answer. answer ≡ path_error tag.now) }
 {
     error_of(alloc, &["path", tag])
 }
 
-fn id_of(node: &Node) -> u64
-    ensures { result ≡ id_of node.now }
+fn entry_at(names: Names, node: Node) -> Entry
+    ensures { result ≡ entry_at names node }
 {
     match node {
-        Node::Folder { id } => *id,
-        Node::Mount { id, .. } => *id,
+        Node::File(meta) => Entry::File { names, meta },
+        Node::Folder { id } => Entry::Folder { names, id },
+        Node::Mount { id, .. } => Entry::Folder { names, id },
     }
 }
 
-fn answer_at(alloc: Global, names: Names, node: &Option<Node>) -> Result<Answer, NoMemory>
-    ensures { IfOk result (λ answer. answer ≡ answer_at names node.now) }
+fn answer_at(alloc: Global, names: Names, node: Option<Node>) -> Result<Answer, NoMemory>
+    ensures { IfOk result (λ answer. answer ≡ answer_at names node) }
 {
     match node {
         None => path_error(alloc, "not_found"),
-        Some(node) => {
-            let id = id_of(node);
-            Ok(Answer::Tagged(Entry::Folder { names, id }))
-        }
+        Some(node) => Ok(Answer::Tagged(entry_at(names, node))),
     }
 }
 
@@ -73,7 +92,7 @@ pub fn look_answer(alloc: Global, image: &Image, user: u64, path: &Text) -> Resu
     match image.resolve(user, path) {
         Ok(found) => {
             let Found { names, node, .. } = found;
-            answer_at(alloc, names, &node)
+            answer_at(alloc, names, node)
         }
         Err(LookFault::Malformed) => path_error(alloc, "malformed_path"),
         Err(LookFault::NotFound) => path_error(alloc, "not_found"),

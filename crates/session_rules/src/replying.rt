@@ -2,7 +2,7 @@
 ghost use Rattle.std.specs.Prelude.{◌≡◌, IfOk, true};
 ghost use Rattle.http_out.specs.Reply.{IsReplyStatus};
 ghost use Rattle.session_rules.specs.Judged.{fault_said};
-ghost use Rattle.session_rules.specs.Replies.{answered, bad_request, body_too_large, head_too_large, interim_text, plain, status_of, text_of, too_large_answer};
+ghost use Rattle.session_rules.specs.Replies.{answered, bad_request, body_too_large, head_too_large, interim_text, mismatch_answer, plain, status_of, text_of, too_large_answer};
 
 use crate::deciding::HeadFault;
 use crate::looking::error_of;
@@ -22,6 +22,7 @@ fn status_of(answer: &Answer) -> u16
 {
     match answer {
         Answer::Tagged(_) => 200,
+        Answer::Plain(_) => 200,
         Answer::Wrapped { .. } => 200,
         Answer::Error(_) => 409,
     }
@@ -77,11 +78,20 @@ pub fn head_too_large_reply(alloc: Global) -> Result<Vec<u8>, NoMemory>
     reply(alloc, 431, BodyKind::Plain, HEAD_TOO_LARGE.as_bytes(), true)
 }
 
+/// What is told of a content past a limit.
 #[tactic(auto, unfolding(crate::specs::Replies::too_large_answer))]
-fn too_large_answer(alloc: Global) -> Result<Answer, NoMemory>
+pub(crate) fn too_large_answer(alloc: Global) -> Result<Answer, NoMemory>
     ensures { IfOk result (λ answer. answer ≡ too_large_answer) }
 {
     error_of(alloc, &["payload_too_large"])
+}
+
+/// What is told where the content isn't the one that was announced.
+#[tactic(auto, unfolding(crate::specs::Replies::mismatch_answer))]
+pub(crate) fn mismatch_answer(alloc: Global) -> Result<Answer, NoMemory>
+    ensures { IfOk result (λ answer. answer ≡ mismatch_answer) }
+{
+    error_of(alloc, &["content_hash_mismatch"])
 }
 
 /// The reply to a body past the limit of its target, after which the connection ends.

@@ -1,20 +1,21 @@
 -- How the bodies of records are read, and what one body more adds.
-use Rattle.std.proofs.Common.{◌≡◌, ℕ, ◌+◌, ◌<◌, ◌≤◌, Bool, true, false, if◌then◌else◌, List, [], ◌∷◌, ◌++◌, length, map, take, get_or, Option, Some, None, Result, Ok, Err, refl, sym, ◌∙◌, ap, subst, arith, append_assoc}
+use Rattle.std.proofs.Common.{◌≡◌, ℕ, ◌+◌, ◌<◌, ◌≤◌, Bool, true, false, if◌then◌else◌, List, [], ◌∷◌, ◌++◌, length, map, take, get_or, Option, Some, None, Result, Ok, Err, refl, sym, ◌∙◌, ap, subst, arith}
 use Rattle.std.proofs.lemmas.Bool.Decides.{nat_tests}
-use Rattle.std.proofs.lemmas.List.{append-nil, take_more}
+use Rattle.std.proofs.lemmas.List.{take_more}
 use Rattle.byte_formats.specs.Fields.{IsBytes}
-use Rattle.byte_formats.specs.Formats.{◌>>=◌, Reading}
+use Rattle.byte_formats.specs.Formats.{◌>>=◌}
 use Rattle.byte_formats.specs.Spelling.{Spells, whole_at}
 use Rattle.byte_formats.proofs.Laws.{bind_ok, ok_is}
 use Rattle.byte_formats.proofs.Whole.{whole_takes, whole_again}
-use Rattle.cmd_codec.specs.Commands.{command, is_kind}
+use Rattle.cmd_codec.specs.Commands.{command}
 use Rattle.cmd_codec.proofs.Lawful.{command_lawful}
 use Rattle.fh_model.specs.declared.commands.Cmd.{Cmd}
 use Rattle.fh_model.specs.declared.rows.Row.{Row}
 use Rattle.fh_model.specs.History.{state_after}
-use Rattle.fh_model.specs.Rows.{state_of_rows, rows_of}
+use Rattle.fh_model.specs.Pieces.{end_in, lies_within}
+use Rattle.fh_model.specs.Rows.{rows_of}
 use Rattle.fh_model.specs.State.{State, opening}
-use Rattle.fh_model.specs.Step.{Stepped, step}
+use Rattle.fh_model.specs.Step.{step}
 use Rattle.fh_model.proofs.RowLemmas.{opening_rows}
 use Rattle.fh_model.proofs.Runs.{state_after_more}
 use Rattle.state_rows.specs.Rows.{checkpoint_row, kind_of}
@@ -22,8 +23,9 @@ use Rattle.state_rows.proofs.Lawful.{row_lawful}
 use Rattle.state_rows.proofs.Spelled.{row_begins, kind_above_acts}
 use Rattle.store_core.specs.declared.bodies.Body.{Body}
 use Rattle.store_core.specs.declared.bodies.Body.TheVariants as body
-use Rattle.store_core.specs.Bodies.{either_read, body_of, spelled, bodies_from, parts_from, in_time, state_in_time, state_and, read_bodies}
+use Rattle.store_core.specs.Bodies.{either_read, body_of, spelled, bodies_from, parts_from, in_time, state_in_time, first_beyond, unless_beyond, state_and, read_bodies}
 use Rattle.store_core.specs.Store.{StandFor}
+use Rattle.store_core.proofs.BlockLemmas.{beyond_longer, beyond_more, after_end, start_end}
 
 -- ---- one body
 
@@ -105,68 +107,109 @@ parts_more late i (body.Command first ∷ bodies) parts cmd e =
     ap (λ (r : Result (List Row × List Cmd) ℕ). r >>= g) (parts_more true (i + 1) bodies v.0 cmd v.1)
     ∙ ap (λ (p : List Row × List Cmd). Ok (p.0, p.1 ++ cmd ∷ [])) (ok_is all parts v.2)
 
--- the state is the rows', and the commands go on
-pub state_and_more : (parts : List Row × List Cmd) (s : State) (cmds : List Cmd) (cmd : Cmd) → state_and (Ok parts) ≡ Ok (s, cmds) → state_and (Ok (parts.0, parts.1 ++ cmd ∷ [])) ≡ Ok (s, cmds ++ cmd ∷ [])
-state_and_more parts s cmds cmd e =
-    let x : State × List Cmd = (s, cmds) in
-    let g : State → Result (State × List Cmd) ℕ = λ z. Ok (z, parts.1) in
-    let w = bind_ok (state_in_time parts.0) g x e in
-    let y : State × List Cmd = (w.0, parts.1) in
-    let same : y ≡ x = ok_is y x w.2 in
-    let h : State → Result (State × List Cmd) ℕ = λ z. Ok (z, parts.1 ++ cmd ∷ []) in
-    ap (λ (r : Result State ℕ). r >>= h) w.1 ∙ ap (λ (z : State × List Cmd). Ok (z.0, z.1 ++ cmd ∷ [])) same
+-- what is read, part by part
+pub record Reads (len : ℕ) (bodies : List (List ℕ)) (s : State) (cmds : List Cmd) : Type 0 where
+  pub rows : List Row
+  pub parts : (bodies_from 0 bodies >>= parts_from false 0) ≡ Ok (rows, cmds)
+  pub timely : state_in_time rows ≡ Ok s
+  pub within : first_beyond len (length rows) cmds ≡ None
 
-pub read_more : (bodies : List (List ℕ)) (bytes : List ℕ) (s : State) (cmds : List Cmd) (cmd : Cmd) → read_bodies bodies ≡ Ok (s, cmds) → Spells command bytes cmd → read_bodies (bodies ++ bytes ∷ []) ≡ Ok (s, cmds ++ cmd ∷ [])
-read_more bodies bytes s cmds cmd e spelling =
+unbeyond : (o : Option ℕ) (x y : State × List Cmd) → unless_beyond o x ≡ Ok y → (o ≡ None) × (x ≡ y)
+unbeyond None x y is = (refl, ok_is x y is)
+unbeyond (Some i) x y is = absurd cc
+
+pub from_read : (len : ℕ) (bodies : List (List ℕ)) (s : State) (cmds : List Cmd) → read_bodies len bodies ≡ Ok (s, cmds) → Reads len bodies s cmds
+from_read len bodies s cmds e =
     let x : State × List Cmd = (s, cmds) in
-    let tail : List Row × List Cmd → Result (State × List Cmd) ℕ = λ p. state_in_time p.0 >>= λ z. Ok (z, p.1) in
+    let tail : List Row × List Cmd → Result (State × List Cmd) ℕ = λ p. state_in_time p.0 >>= λ z. unless_beyond (first_beyond len (length p.0) p.1) (z, p.1) in
     let w = bind_ok (bodies_from 0 bodies >>= parts_from false 0) tail x e in
-    let v = bind_ok (bodies_from 0 bodies) (parts_from false 0) w.0 w.1 in
-    let more = bodies_more bodies 0 v.0 bytes (body.Command cmd) v.1 (body_command bytes cmd spelling) in
-    ap (λ (r : Result (List Body) ℕ). state_and (r >>= parts_from false 0)) more
-    ∙ ap state_and (parts_more false 0 v.0 w.0 cmd v.2)
-    ∙ state_and_more w.0 s cmds cmd w.2
+    let last : State → Result (State × List Cmd) ℕ = λ z. unless_beyond (first_beyond len (length w.0.0) w.0.1) (z, w.0.1) in
+    let v = bind_ok (state_in_time w.0.0) last x w.2 in
+    let y : State × List Cmd = (v.0, w.0.1) in
+    let u = unbeyond (first_beyond len (length w.0.0) w.0.1) y x v.2 in
+    record {
+      rows = w.0.0;
+      parts = w.1 ∙ ap (λ (z : State × List Cmd). Ok (w.0.0, z.1)) u.1;
+      timely = v.1 ∙ ap (λ (z : State × List Cmd). Ok z.0) u.1;
+      within = ap (λ (z : State × List Cmd). first_beyond len (length w.0.0) z.1) (sym u.1) ∙ u.0;
+    }
 
-pub stand_more : (bodies : List (List ℕ)) (bytes : List ℕ) (s : State) (cmd : Cmd) → StandFor bodies s → Spells command bytes cmd → StandFor (bodies ++ bytes ∷ []) (step s cmd).state
-stand_more bodies bytes s cmd stand spelling = record {
+pub to_read : (len : ℕ) (bodies : List (List ℕ)) (s : State) (cmds : List Cmd) → Reads len bodies s cmds → read_bodies len bodies ≡ Ok (s, cmds)
+to_read len bodies s cmds is =
+    ap (state_and len) is.parts
+    ∙ ap (λ (r : Result State ℕ). r >>= λ z. unless_beyond (first_beyond len (length is.rows) cmds) (z, cmds)) is.timely
+    ∙ ap (λ (o : Option ℕ). unless_beyond o (s, cmds)) is.within
+
+pub read_more : (len : ℕ) (bodies : List (List ℕ)) (bytes : List ℕ) (s : State) (cmds : List Cmd) (cmd : Cmd) → read_bodies len bodies ≡ Ok (s, cmds) → Spells command bytes cmd → lies_within len cmd ≡ true
+    → read_bodies len (bodies ++ bytes ∷ []) ≡ Ok (s, cmds ++ cmd ∷ [])
+read_more len bodies bytes s cmds cmd e spelling lies =
+    let r = from_read len bodies s cmds e in
+    let p : List Row × List Cmd = (r.rows, cmds) in
+    let v = bind_ok (bodies_from 0 bodies) (parts_from false 0) p r.parts in
+    let more = bodies_more bodies 0 v.0 bytes (body.Command cmd) v.1 (body_command bytes cmd spelling) in
+    to_read len (bodies ++ bytes ∷ []) s (cmds ++ cmd ∷ []) (record {
+      rows = r.rows;
+      parts = ap (λ (z : Result (List Body) ℕ). z >>= parts_from false 0) more ∙ parts_more false 0 v.0 p cmd v.2;
+      timely = r.timely;
+      within = beyond_more len (length r.rows) cmds cmd r.within lies;
+    })
+
+pub stand_more : (len : ℕ) (bodies : List (List ℕ)) (bytes : List ℕ) (s : State) (cmd : Cmd) → StandFor len bodies s → Spells command bytes cmd → lies_within len cmd ≡ true
+    → StandFor len (bodies ++ bytes ∷ []) (step s cmd).state
+stand_more len bodies bytes s cmd stand spelling lies = record {
   start = stand.start;
   commands = stand.commands ++ cmd ∷ [];
-  read = read_more bodies bytes stand.start stand.commands cmd stand.read spelling;
+  read = read_more len bodies bytes stand.start stand.commands cmd stand.read spelling lies;
   after = state_after_more stand.start stand.commands cmd ∙ ap (λ (z : State). (step z cmd).state) stand.after;
 }
+
+-- over a longer block file they stand for the same
+pub stand_longer : (len more : ℕ) (bodies : List (List ℕ)) (s : State) → len ≤ more → StandFor len bodies s → StandFor more bodies s
+stand_longer len more bodies s longer stand =
+    let r = from_read len bodies stand.start stand.commands stand.read in
+    record {
+      start = stand.start;
+      commands = stand.commands;
+      read = to_read more bodies stand.start stand.commands (record {
+        rows = r.rows;
+        parts = r.parts;
+        timely = r.timely;
+        within = beyond_longer len more (length r.rows) stand.commands longer r.within;
+      });
+      after = stand.after;
+    }
+
+-- the state's pieces lie in the block file
+pub stand_end : (len : ℕ) (bodies : List (List ℕ)) (s : State) → StandFor len bodies s → end_in s ≤ len
+stand_end len bodies s stand =
+    let r = from_read len bodies stand.start stand.commands stand.read in
+    let start : end_in stand.start ≤ len = subst (λ n. n ≤ len) (sym (start_end r.rows stand.start r.timely)) (omega arith) in
+    subst (λ (z : State). end_in z ≤ len) stand.after (after_end len (length r.rows) stand.start stand.commands r.within start)
 
 -- ---- what is read of all records
 
 -- where they are read
-pub parts_stand : (bodies : List (List ℕ)) (all : List Body) (parts : List Row × List Cmd) (s state : State) → bodies_from 0 bodies ≡ Ok all → parts_from false 0 all ≡ Ok parts → state_in_time parts.0 ≡ Ok s → state_after s parts.1 ≡ state → StandFor bodies state
-parts_stand bodies all parts s state spell split timely after = record {
+pub parts_stand : (len : ℕ) (bodies : List (List ℕ)) (all : List Body) (p : List Row × List Cmd) (s state : State) → bodies_from 0 bodies ≡ Ok all → parts_from false 0 all ≡ Ok p → state_in_time p.0 ≡ Ok s
+    → first_beyond len (length p.0) p.1 ≡ None → state_after s p.1 ≡ state → StandFor len bodies state
+parts_stand len bodies all p s state spell split timely lies after = record {
   start = s;
-  commands = parts.1;
-  read =
-      ap (λ (r : Result (List Body) ℕ). state_and (r >>= parts_from false 0)) spell ∙ ap state_and split
-      ∙ ap (λ (r : Result State ℕ). r >>= λ z. Ok (z, parts.1)) timely;
+  commands = p.1;
+  read = to_read len bodies s p.1 (record {
+    rows = p.0;
+    parts = ap (λ (z : Result (List Body) ℕ). z >>= parts_from false 0) spell ∙ split;
+    timely = timely;
+    within = lies;
+  });
   after = after;
 }
-
--- where one breaks a rule
-pub bodies_bad : (bodies : List (List ℕ)) (i : ℕ) → bodies_from 0 bodies ≡ Err i → read_bodies bodies ≡ Err i
-bodies_bad bodies i bad = ap (λ (r : Result (List Body) ℕ). state_and (r >>= parts_from false 0)) bad
-
-pub parts_bad : (bodies : List (List ℕ)) (all : List Body) (i : ℕ) → bodies_from 0 bodies ≡ Ok all → parts_from false 0 all ≡ Err i → read_bodies bodies ≡ Err i
-parts_bad bodies all i spell bad = ap (λ (r : Result (List Body) ℕ). state_and (r >>= parts_from false 0)) spell ∙ ap state_and bad
-
-pub rows_bad : (bodies : List (List ℕ)) (all : List Body) (parts : List Row × List Cmd) (i : ℕ) → bodies_from 0 bodies ≡ Ok all → parts_from false 0 all ≡ Ok parts → state_in_time parts.0 ≡ Err i → read_bodies bodies ≡ Err i
-rows_bad bodies all parts i spell split bad =
-    ap (λ (r : Result (List Body) ℕ). state_and (r >>= parts_from false 0)) spell ∙ ap state_and split
-    ∙ ap (λ (r : Result State ℕ). r >>= λ z. Ok (z, parts.1)) bad
 
 -- the rows alone
 pub only_rows : (i : ℕ) (rows : List Row) → parts_from false i (map body.Row rows) ≡ Ok (rows, [])
 only_rows i [] = refl
 only_rows i (row ∷ rows) = ap (λ (r : Result (List Row × List Cmd) ℕ). r >>= with_row row) (only_rows (i + 1) rows)
 
-pub opening_stands : (bodies : List (List ℕ)) → bodies_from 0 bodies ≡ Ok (map body.Row (rows_of opening)) → StandFor bodies opening
-opening_stands bodies spell = parts_stand bodies (map body.Row (rows_of opening)) (rows_of opening, []) opening opening spell (only_rows 0 (rows_of opening)) (ap (λ (r : Result State ℕ). r >>= in_time) opening_rows) refl
+pub opening_stands : (bodies : List (List ℕ)) → bodies_from 0 bodies ≡ Ok (map body.Row (rows_of opening)) → StandFor 0 bodies opening
+opening_stands bodies spell = parts_stand 0 bodies (map body.Row (rows_of opening)) (rows_of opening, []) opening opening spell (only_rows 0 (rows_of opening)) (ap (λ (r : Result State ℕ). r >>= in_time) opening_rows) refl refl
 
 -- one row more
 map_push : (rows : List Row) (row : Row) → map body.Row (rows ++ row ∷ []) ≡ map body.Row rows ++ body.Row row ∷ []

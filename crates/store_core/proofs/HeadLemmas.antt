@@ -1,14 +1,11 @@
 -- What the head file says while it is read, and while it is made.
-use Rattle.std.proofs.Common.{◌≡◌, ◌≢◌, ◌⊎◌, inl, inr, ⊎_elim, ℕ, ◌+◌, ◌<◌, ◌≤◌, Bool, true, false, not, if◌then◌else◌, ◌==◌, nat_lt, List, [], ◌∷◌, ◌++◌, Option, Some, None, length, take, drop, get_or, refl, sym, ◌∙◌, ap, subst, arith, take-append-drop, length-append, length-drop, length-take-le}
-use Rattle.std.proofs.lemmas.Bool.{ltb-true, ltb-false, cases_lt, lt-ltb, le-ltb, eqb-true, eq-eqb, ne_eqb, cases_Bool}
-use Rattle.std.proofs.lemmas.Bool.Decides.{nat_tests}
-use Rattle.std.proofs.lemmas.List.{drop_more, append-nil}
-use Rattle.fh_world.specs.declared.FileNo.{FileNo}
+use Rattle.std.proofs.Common.{◌≡◌, ◌≢◌, inl, inr, ⊎_elim, ℕ, ◌+◌, ◌<◌, ◌≤◌, Bool, true, false, if◌then◌else◌, ◌==◌, nat_lt, List, [], ◌∷◌, ◌++◌, Option, Some, None, length, take, drop, get_or, refl, sym, ◌∙◌, ap, subst, arith, length-drop}
+use Rattle.std.proofs.lemmas.Bool.{ltb-false, cases_lt, lt-ltb, le-ltb, eq-eqb, ne_eqb}
+use Rattle.std.proofs.lemmas.List.{drop_more}
 use Rattle.fh_world.specs.declared.FileNo.TheVariants as file
 use Rattle.fh_world.specs.Disk.{Torn, Overwritten}
-use Rattle.store_core.specs.declared.head.HeadRead.{HeadRead}
 use Rattle.store_core.specs.declared.head.HeadRead.TheVariants.{New, NotAStore, Names}
-use Rattle.store_core.specs.Head.{store_text, slot_named, first_other, told_by, gated, head_in, text_of_slot_a, IsShut, IsNewOrNames}
+use Rattle.store_core.specs.Head.{store_text, first_other, told_by, gated, head_in, text_of_slot_a, IsShut, IsNewOrNames}
 
 -- text is left where the bytes end
 pub other_end : (place : ℕ) (text rest bytes : List ℕ) (i : ℕ) → i < length text → length rest < 1 → first_other place (drop i text) rest ≡ first_other 1 text bytes → Some place ≡ first_other 1 text bytes

@@ -1,14 +1,14 @@
 -- What a crash leaves while the head is written.
-use Rattle.std.proofs.Common.{◌≡◌, ◌≢◌, ◌⊎◌, inl, inr, ℕ, ◌<◌, List, [], ◌∷◌, Bool, true, false, not, ◌==◌, get_or, length, refl, sym, ◌∙◌, ap, subst}
-use Rattle.std.proofs.lemmas.Bool.{eqb-true, eqb-false}
+use Rattle.std.proofs.Common.{◌≡◌, inl, ℕ, ◌<◌, List, [], ◌∷◌, Bool, true, false, not, ◌==◌, get_or, length, refl, sym, ◌∙◌, ap, subst}
+use Rattle.std.proofs.lemmas.Bool.{eqb-true}
 use Rattle.fh_world.specs.declared.FileNo.{FileNo}
 use Rattle.fh_world.specs.declared.FileNo.TheVariants as file
 use Rattle.fh_world.specs.declared.Disk as disk
-use Rattle.fh_world.specs.Disk.{Files, Torn, Overwritten, Only, Rests, Writes, LeavesOnly, LeavesTorn}
+use Rattle.fh_world.specs.Disk.{Torn, Overwritten, Only, Rests, LeavesOnly, LeavesTorn}
 use Rattle.fh_world.proofs.Moments.{weaker}
-use Rattle.gate_journal.specs.Journal.{AnyMoment, Keeps, KeepsOthers, LeavesSlot}
-use Rattle.gate_journal.proofs.StateLemmas.{slot_run, kept_rests, kept_written, kept_joined}
-use Rattle.store_core.specs.declared.head.HeadRead.TheVariants.{New, NotAStore, Names}
+use Rattle.gate_journal.specs.Journal.{AnyMoment, Keeps}
+use Rattle.gate_journal.proofs.StateLemmas.{slot_run, kept_rests}
+use Rattle.store_core.specs.declared.head.HeadRead.TheVariants.{New}
 use Rattle.store_core.specs.Head.{head_in, text_of_slot_a, IsShut, IsNewOrNames}
 use Rattle.store_core.specs.Store.{NamesSlot}
 use Rattle.store_core.proofs.HeadLemmas.{open_short, shut_new, torn_short, now_shut, torn_shut, now_written, IsWritten, torn_written, now_named}

@@ -1,8 +1,14 @@
+pub mod AppendLemmas
+pub mod BlockLemmas
 pub mod BodyLemmas
+pub mod CommitLemmas
+pub mod FetchLemmas
 pub mod HeadLemmas
 pub mod HeadRuns
+pub mod HeldLemmas
 pub mod MakeLemmas
 pub mod OpenLemmas
 pub mod PlaceLemmas
+pub mod PutLemmas
 pub mod StateLemmas
 pub mod StepLemmas

@@ -1,22 +1,21 @@
 -- What a crash leaves while a store is made.
-use Rattle.std.proofs.Common.{◌≡◌, ◌≢◌, ◌⊎◌, inl, inr, ⊎_elim, ℕ, List, [], ◌∷◌, refl, sym, ◌∙◌, ap, subst}
+use Rattle.std.proofs.Common.{◌≡◌, ◌≢◌, inl, inr, ⊎_elim, ℕ, List, refl, sym, ◌∙◌, ap, subst, arith}
 use Rattle.fh_model.specs.State.{opening}
 use Rattle.fh_world.specs.declared.FileNo.{FileNo}
 use Rattle.fh_world.specs.declared.FileNo.TheVariants as file
 use Rattle.fh_world.specs.declared.Disk as disk
 use Rattle.fh_world.specs.Disk.{Files, Only, LeavesOnly}
-use Rattle.fh_world.proofs.Moments.{started, weaker, joined}
+use Rattle.fh_world.proofs.Moments.{started, weaker}
 use Rattle.gate_journal.specs.declared.Journal.{Journal}
-use Rattle.gate_journal.specs.Journal.{slot_of, Settled, AnyMoment, Keeps, LeavesSlot}
+use Rattle.gate_journal.specs.Journal.{slot_of, Settled, AnyMoment, Keeps}
 use Rattle.gate_journal.specs.Slot.{Held, found, IsAny}
 use Rattle.gate_journal.proofs.StateLemmas.{settled_seen, settled_left, settled_beside}
 use Rattle.store_core.specs.declared.head.HeadRead.{HeadRead}
-use Rattle.store_core.specs.declared.head.HeadRead.TheVariants.{New, Names}
-use Rattle.store_core.specs.Files.{by_head}
+use Rattle.store_core.specs.declared.head.HeadRead.TheVariants.{New}
+use Rattle.store_core.specs.Files.{by_head, IsNewOrMade}
 use Rattle.store_core.specs.Head.{head_in, IsNewOrNames}
-use Rattle.store_core.specs.Open.{IsNewOrMade}
 use Rattle.store_core.specs.Store.{NamesSlot, StandFor, IsSettledStore}
-use Rattle.store_core.proofs.StateLemmas.{stands_by}
+use Rattle.store_core.proofs.StateLemmas.{stands_by, holds_none}
 
 pub new_files : (files : Files) → head_in (files file.Head) ≡ New → IsNewOrMade files
 new_files files is = inl (ap (λ (h : HeadRead). by_head h files) is)
@@ -39,13 +38,13 @@ module _ {D : Type 0} (d : disk.Ghosts D) (old : D) (unmade : head_in (d.seen ol
   pub laid_durable : (mid : D) → Keeps d file.SlotA old mid → Only (d.seen mid file.Head) (d.may_leave mid file.Head)
   laid_durable mid others = λ c may. durable c (others.crash file.Head (head_is_no_slot file.SlotA refl) c may) ∙ sym (others.seen file.Head (head_is_no_slot file.SlotA refl))
 
-module _ {D : Type 0} (d : disk.Ghosts D) (mid new : D) (j : Journal) (bodies : List (List ℕ)) (slot : slot_of j ≡ file.SlotA) (settled : Settled d mid j bodies) (stand : StandFor bodies opening) where
+module _ {D : Type 0} (d : disk.Ghosts D) (mid new : D) (j : Journal) (bodies : List (List ℕ)) (slot : slot_of j ≡ file.SlotA) (settled : Settled d mid j bodies) (stand : StandFor 0 bodies opening) where
   slot_is_no_head : slot_of j ≢ file.Head
   slot_is_no_head same = head_is_no_slot (slot_of j) slot (sym same)
 
   -- files whose head is none yet, or names the slot that was laid
   made_files : (files : Files) → IsNewOrNames (files file.Head) → found (files (slot_of j)) ≡ Held bodies → IsNewOrMade files
-  made_files files head held = ⊎_elim (new_files files) (λ named. inr (stands_by files file.SlotA bodies opening named (subst (λ (s : FileNo). found (files s) ≡ Held bodies) slot held) stand)) head
+  made_files files head held = ⊎_elim (new_files files) (λ named. inr (stands_by files file.SlotA bodies opening 0 (files file.Blocks) named (subst (λ (s : FileNo). found (files s) ≡ Held bodies) slot held) stand (omega arith) refl)) head
 
   -- while the head is written
   pub made_run : AnyMoment d mid new file.Head IsNewOrNames → LeavesOnly d.moment d.left_since mid new IsNewOrMade
@@ -63,5 +62,7 @@ module _ {D : Type 0} (d : disk.Ghosts D) (mid new : D) (j : Journal) (bodies : 
     named = subst (NamesSlot d new) (sym slot) named;
     bodies = bodies;
     slot = settled_now others;
+    len = 0;
     stand = stand;
+    blocks = holds_none d new;
   }

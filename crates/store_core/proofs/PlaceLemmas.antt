@@ -1,5 +1,5 @@
 -- The places of records.
-use Rattle.std.proofs.Common.{◌≡◌, ℕ, ◌+◌, ◌<◌, ◌≤◌, List, [], ◌∷◌, ◌++◌, length, take, drop, get_or, refl, sym, ◌∙◌, ap, arith, length-append, take-append-drop}
+use Rattle.std.proofs.Common.{◌≡◌, ℕ, ◌+◌, ◌<◌, ◌≤◌, List, ◌∷◌, length, take, drop, get_or, sym, ap, arith, length-append, take-append-drop}
 use Rattle.std.proofs.lemmas.List.{take_all}
 use Rattle.gate_journal.specs.Slot.{records, behind_gate}
 use Rattle.gate_journal.proofs.SlotLemmas.{records-append, records_more, length-behind_gate}

@@ -1,10 +1,10 @@
 -- A command that doesn't enter changes nothing.
-use Rattle.std.proofs.Common.{◌≡◌, inl, inr, false, sym, ◌∙◌, ap}
+use Rattle.std.proofs.Common.{◌≡◌, inl, inr, sym, ◌∙◌, ap}
 use Rattle.std.proofs.lemmas.Bool.{cases_Bool}
 use Rattle.fh_model.proofs.StepLaws.{step_stays}
 use Rattle.fh_model.specs.declared.commands.Cmd.{Cmd}
 use Rattle.fh_model.specs.History.{Kept, state_of, next_of}
-use Rattle.fh_model.specs.Step.{Stepped, step}
+use Rattle.fh_model.specs.Step.{step}
 use Rattle.store_core.proofs.StateLemmas.{state_of_next, next_stays}
 
 -- the state after a command is the step's, whether it enters or not

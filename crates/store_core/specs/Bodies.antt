@@ -5,6 +5,7 @@ use Rattle.byte_formats.specs.Spelling.{whole_at}
 use Rattle.cmd_codec.specs.Commands.{command}
 use Rattle.fh_model.specs.declared.commands.Cmd.{Cmd}
 use Rattle.fh_model.specs.declared.rows.Row.{Row}
+use Rattle.fh_model.specs.Pieces.{lies_within}
 use Rattle.fh_model.specs.Rows.{state_of_rows}
 use Rattle.fh_model.specs.State.{State}
 use Rattle.fh_world.specs.Seconds.{last_second}
@@ -48,12 +49,24 @@ in_time s = if nat_le s.moment last_second then Ok s else Err 0
 abbrev pub state_in_time : List Row → Result State ℕ
 state_in_time rows = state_of_rows rows >>= in_time
 
-abbrev pub state_and : Result (List Row × List Cmd) ℕ → Result (State × List Cmd) ℕ
-state_and parts = parts >>= λ p. state_in_time p.0 >>= λ s. Ok (s, p.1)
+-- The number of the first of these commands that names a piece beyond a block file of so many bytes, where the first
+-- of them has this number.
+abbrev pub first_beyond : ℕ → ℕ → List Cmd → Option ℕ
+first_beyond len i [] = None
+first_beyond len i (cmd ∷ commands) = if lies_within len cmd then first_beyond len (i + 1) commands else Some i
 
--- the state of the rows, and the commands behind them
-abbrev pub read_bodies : List (List ℕ) → Result (State × List Cmd) ℕ
-read_bodies bodies = state_and (bodies_from 0 bodies >>= parts_from false 0)
+abbrev pub unless_beyond : Option ℕ → State × List Cmd → Result (State × List Cmd) ℕ
+unless_beyond None read = Ok read
+unless_beyond (Some i) read = Err i
+
+-- no command names a piece beyond the block file
+abbrev pub state_and : ℕ → Result (List Row × List Cmd) ℕ → Result (State × List Cmd) ℕ
+state_and len parts =
+    parts >>= λ p. state_in_time p.0 >>= λ s. unless_beyond (first_beyond len (length p.0) p.1) (s, p.1)
+
+-- the state of the rows, and the commands behind them, over a block file of so many bytes
+abbrev pub read_bodies : ℕ → List (List ℕ) → Result (State × List Cmd) ℕ
+read_bodies len bodies = state_and len (bodies_from 0 bodies >>= parts_from false 0)
 
 -- the place of a record, or the records' end
 abbrev pub place_of : List (List ℕ) → ℕ → ℕ
@@ -63,10 +76,10 @@ abbrev pub at_place : List (List ℕ) → Result (State × List Cmd) ℕ → Res
 at_place bodies (Ok read) = Ok read
 at_place bodies (Err i) = Err (place_of bodies i)
 
-abbrev pub read_found : Found → Result (State × List Cmd) ℕ
-read_found (Held bodies) = at_place bodies (read_bodies bodies)
-read_found (Broken place) = Err place
+abbrev pub read_found : ℕ → Found → Result (State × List Cmd) ℕ
+read_found len (Held bodies) = at_place bodies (read_bodies len bodies)
+read_found len (Broken place) = Err place
 
--- what a slot's bytes stand for, or the place of the record that is damaged
-abbrev pub read_slot : List ℕ → Result (State × List Cmd) ℕ
-read_slot bytes = read_found (found bytes)
+-- what a slot's bytes stand for, over a block file of so many bytes, or the place of the record that is damaged
+abbrev pub read_slot : ℕ → List ℕ → Result (State × List Cmd) ℕ
+read_slot len bytes = read_found len (found bytes)

@@ -1,6 +1,6 @@
 -- What opening a store finds, and what it leaves.
 use Rattle.std.specs.Prelude.{◌≡◌, ◌⊎◌, ℕ, List, Result, Ok, Err}
-use Rattle.fh_model.specs.State.{State, opening}
+use Rattle.fh_model.specs.State.{State}
 use Rattle.fh_world.specs.declared.FileNo.{FileNo}
 use Rattle.fh_world.specs.declared.Disk as disk
 use Rattle.fh_world.specs.Disk.{Files}
@@ -9,7 +9,7 @@ use Rattle.gate_journal.specs.Slot.{Held, found}
 use Rattle.gate_journal.specs.declared.journal.Journal.{Journal}
 use Rattle.store_core.specs.declared.faults.StoreFault.{StoreFault}
 use Rattle.store_core.specs.declared.faults.StoreFault.TheVariants as fault
-use Rattle.store_core.specs.Files.{Contents, New, NotAStore, Damaged, contents, Stands, KeepsMeaning}
+use Rattle.store_core.specs.Files.{Contents, NotAStore, Damaged, KeepsMeaning}
 use Rattle.store_core.specs.Store.{Opened, StandFor}
 
 -- the disk, in the store or handed back
@@ -28,13 +28,9 @@ IsSaid found fault.NoMemory = Unit {0}
 abbrev pub LeavesMeaning : (FileNo → List ℕ → Type 0) → Files → Files → Type 0
 LeavesMeaning may_old seen_old files = ((g : FileNo) → may_old g (files g)) ⊎ KeepsMeaning seen_old files
 
--- the files are those of a store that isn't made yet, or of a new one
-abbrev pub IsNewOrMade : Files → Type 0
-IsNewOrMade files = (contents files ≡ New) ⊎ Stands files opening
-
--- a slot was read: its records stand for a state, and its journal stands behind them
-pub record ReadsSlot {D : Type 0} (d : disk.Ghosts D) (old new : D) (slot : FileNo) (j : Journal) (state : State) : Type 0 where
+-- a slot was read: over a block file of so many bytes its records stand for a state, and its journal stands behind them
+pub record ReadsSlot {D : Type 0} (d : disk.Ghosts D) (old new : D) (slot : FileNo) (j : Journal) (len : ℕ) (state : State) : Type 0 where
   pub bodies : List (List ℕ)
   pub held : found (d.seen old slot) ≡ Held bodies
   pub settled : Settled d new j bodies
-  pub stand : StandFor bodies state
+  pub stand : StandFor len bodies state

@@ -1,5 +1,6 @@
 ghost use Rattle.std.specs.Prelude.{◌≡◌};
 ghost use Rattle.store_core.specs.declared.faults.CommitFault.TheVariants as commit_faults;
+ghost use Rattle.store_core.specs.declared.faults.FetchFault.TheVariants as fetch_faults;
 ghost use Rattle.store_core.specs.declared.faults.StoreFault.TheVariants as store_faults;
 
 use fh_model::NoMemory;
@@ -57,5 +58,34 @@ impl From<NoMemory> for CommitFault {
 
     fn from(_: NoMemory) -> Self {
         CommitFault::NoMemory
+    }
+}
+
+/// Why a block wasn't fetched.
+#[derive(Clone, Copy, Debug, PartialEq, Eq)]
+pub enum FetchFault {
+    /// There is no version with this rev.
+    NoRev,
+    /// The version has no block with this number.
+    NoBlock,
+    /// The disk failed.
+    Disk,
+    /// Memory ran out.
+    NoMemory,
+}
+
+impl From<Failed> for FetchFault {
+    ghost from_gives = { λ _ fault. fault ≡ fetch_faults.Disk };
+
+    fn from(_: Failed) -> Self {
+        FetchFault::Disk
+    }
+}
+
+impl From<AllocError> for FetchFault {
+    ghost from_gives = { λ _ fault. fault ≡ fetch_faults.NoMemory };
+
+    fn from(_: AllocError) -> Self {
+        FetchFault::NoMemory
     }
 }

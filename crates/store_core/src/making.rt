@@ -12,7 +12,7 @@ ghost use Rattle.store_core.specs.Bodies.{bodies_from};
 ghost use Rattle.store_core.specs.declared.head.HeadRead.TheVariants.{New};
 ghost use Rattle.store_core.specs.declared.bodies.Body.TheVariants as body;
 ghost use Rattle.store_core.specs.Head.{head_in};
-ghost use Rattle.store_core.specs.Open.{IsNewOrMade};
+ghost use Rattle.store_core.specs.Files.{IsNewOrMade};
 ghost use Rattle.store_core.specs.Store.{IsSettledStore};
 
 use crate::StoreFault;

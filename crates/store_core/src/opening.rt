@@ -1,5 +1,6 @@
 //! How a store is opened.
-ghost use Rattle.std.specs.Prelude.{◌≡◌, ◌⊎◌, ◌≤◌, ℕ, [], List, false, IsTrue, IfOk, IfErr, OnOk, OnErr, IsErrOf, Ok, Err};
+ghost use Rattle.std.specs.Prelude.{◌≡◌, ◌⊎◌, ◌≤◌, ◌^◌, ℕ, [], List, false, IsTrue, IfOk, IfErr, OnOk, OnErr, IsErrOf, Ok, Err};
+ghost use Rattle.fh_model.specs.Pieces.{end_in};
 ghost use Rattle.fh_world.specs.Causes.{HasCause, Rose};
 ghost use Rattle.fh_world.specs.declared.FileNo.{FileNo};
 ghost use Rattle.fh_world.specs.Disk.{Only, Rests, LeavesOnly};
@@ -20,6 +21,7 @@ use std::alloc::Global;
 pub(crate) fn open_on<D: Disk>(alloc: Global, disk: &mut D) -> Result<(Journal, Image), StoreFault>
     ensures history { IfOk result (λ opened. opened.1.history ≡ []) }
     ensures idle { IfOk result (λ opened. is_pending opened.0 ≡ false) }
+    ensures end { IfOk result (λ opened. end_in opened.1.start ≤ 2 ^ 62) }
     ensures settled { IfOk result (λ opened. IsTrue D.tells → IsSettledStore D.Disk disk.new opened.0 opened.1.start) }
     ensures found { IfOk result (λ opened. IsTrue D.tells → StandsOrNew (D.seen disk.old) opened.1.start) }
     ensures refused { IfErr result (λ fault. IsTrue D.tells → IsSaid (contents (D.seen disk.old)) fault) }

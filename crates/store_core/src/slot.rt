@@ -1,34 +1,62 @@
 //! The slot that counts.
 ghost use Rattle.std.specs.Prelude.{◌≡◌, ◌<◌, ◌^◌, ◌≤◌, ◌∷◌, [], ℕ, false, length, List, IsTrue, IfOk, Ok, Err, IsErrOf};
 ghost use Rattle.fh_model.specs.History.{state_of, state_after};
+ghost use Rattle.fh_model.specs.Pieces.{end_in, ends_within, lies_within};
 ghost use Rattle.fh_world.specs.Causes.{Rose};
 ghost use Rattle.fh_world.specs.declared.FileNo.{FileNo};
+ghost use Rattle.fh_world.specs.declared.FileNo.TheVariants.{Blocks};
 ghost use Rattle.fh_world.specs.Disk.{Rests, LeavesOnly};
 ghost use Rattle.gate_journal.specs.Journal.{slot_of, is_pending};
 ghost use Rattle.gate_journal.specs.Slot.{records as spelled};
-ghost use Rattle.store_core.specs.Bodies.{state_in_time, read_bodies, read_slot, place_of};
+ghost use Rattle.store_core.specs.Bodies.{state_in_time, first_beyond, read_bodies, read_slot, place_of};
 ghost use Rattle.store_core.specs.Open.{ReadsSlot};
 ghost use Rattle.store_core.specs.Store.{StandFor};
 
 use crate::StoreFault;
 use crate::bodies::{RecordFault, bodies_of, parts_of};
-use fh_model::{Cmd, LAST_SECOND, NoMemory, Row};
+use fh_model::{Act, Cmd, LAST_SECOND, NoMemory, Piece, Row};
 use fh_world::{Disk, FileNo};
 use gate_journal::{Journal, OpenFault, Record, open};
 use name_core::{Image, RowsFault};
 use std::alloc::Global;
 
-/// Reads the slot: its journal, and the image of the state that its records stand for, which keeps no command.
+/// Reads the slot over the block file: its journal, and the image of the state that its records stand for, which keeps
+/// no command.
 pub(crate) fn read<D: Disk>(
     alloc: Global,
     disk: &mut D,
     slot: FileNo,
 ) -> Result<(Journal, Image), StoreFault>
     ensures image { IfOk result (λ opened. opened.1.history ≡ []) }
+    ensures end { IfOk result (λ opened. end_in opened.1.start ≤ 2 ^ 62) }
     ensures idle { IfOk result (λ opened. is_pending opened.0 ≡ false) }
     ensures slot { IfOk result (λ opened. slot_of opened.0 ≡ slot) }
-    ensures reads { IfOk result (λ opened. IsTrue D.tells → ReadsSlot D.Disk disk.old disk.new slot opened.0 opened.1.start) }
-    ensures damaged { (place : ℕ) → IsErrOf result (StoreFault.Damaged place) → IsTrue D.tells → read_slot (D.seen disk.old slot) ≡ Err place }
+    ensures reads { IfOk result (λ opened. IsTrue D.tells → ReadsSlot D.Disk disk.old disk.new slot opened.0 (length (D.seen disk.old Blocks)) opened.1.start) }
+    ensures damaged { (place : ℕ) → IsErrOf result (StoreFault.Damaged place) → IsTrue D.tells → read_slot (length (D.seen disk.old Blocks)) (D.seen disk.old slot) ≡ Err place }
+    ensures only { (place : ℕ) → IsErrOf result (StoreFault.NotAStore place) → ⊥ }
+    ensures rests { Rests (D.seen disk.old) (D.seen disk.new) (D.may_leave disk.old) (D.may_leave disk.new) }
+    ensures any_moment { LeavesOnly D.moment D.left_since disk.old disk.new (λ image. (g : FileNo) → D.may_leave disk.old g (image g)) }
+    ensures place { D.place disk.new ≡ D.place disk.old }
+    ensures later { D.faults disk.old ≤ D.faults disk.new }
+    ensures cause { IsErrOf result StoreFault.Disk → Rose (D.faults disk.old) (D.faults disk.new) }
+{
+    let len = disk.len(FileNo::Blocks)?;
+    read_over(alloc, disk, slot, len)
+}
+
+/// Reads the slot over a block file of so many bytes.
+fn read_over<D: Disk>(
+    alloc: Global,
+    disk: &mut D,
+    slot: FileNo,
+    len: u64,
+) -> Result<(Journal, Image), StoreFault>
+    ensures image { IfOk result (λ opened. opened.1.history ≡ []) }
+    ensures end { IfOk result (λ opened. end_in opened.1.start ≤ len) }
+    ensures idle { IfOk result (λ opened. is_pending opened.0 ≡ false) }
+    ensures slot { IfOk result (λ opened. slot_of opened.0 ≡ slot) }
+    ensures reads { IfOk result (λ opened. IsTrue D.tells → ReadsSlot D.Disk disk.old disk.new slot opened.0 len opened.1.start) }
+    ensures damaged { (place : ℕ) → IsErrOf result (StoreFault.Damaged place) → IsTrue D.tells → read_slot len (D.seen disk.old slot) ≡ Err place }
     ensures only { (place : ℕ) → IsErrOf result (StoreFault.NotAStore place) → ⊥ }
     ensures rests { Rests (D.seen disk.old) (D.seen disk.new) (D.may_leave disk.old) (D.may_leave disk.new) }
     ensures any_moment { LeavesOnly D.moment D.left_since disk.old disk.new (λ image. (g : FileNo) → D.may_leave disk.old g (image g)) }
@@ -42,7 +70,7 @@ pub(crate) fn read<D: Disk>(
         Err(OpenFault::Damaged { place }) => return Err(StoreFault::Damaged { place }),
         Err(OpenFault::NoMemory) => return Err(StoreFault::NoMemory),
     };
-    match image_of(alloc, &records) {
+    match image_of(alloc, len, &records) {
         Ok(image) => Ok((journal, image)),
         Err(RecordFault::NoMemory) => Err(StoreFault::NoMemory),
         Err(RecordFault::Bad { index }) => Err(StoreFault::Damaged {
@@ -51,18 +79,57 @@ pub(crate) fn read<D: Disk>(
     }
 }
 
-/// The image of the state that records stand for, which keeps no command.
-fn image_of(alloc: Global, records: &[Record]) -> Result<Image, RecordFault>
+/// The image of the state that records stand for over a block file of so many bytes. It keeps no command.
+fn image_of(alloc: Global, len: u64, records: &[Record]) -> Result<Image, RecordFault>
     ensures history { IfOk result (λ image. image.history ≡ []) }
-    ensures stand { IfOk result (λ image. StandFor records.now image.start) }
-    ensures bad { (index : ℕ) → IsErrOf result (RecordFault.Bad index) → read_bodies records.now ≡ Err index }
+    ensures stand { IfOk result (λ image. StandFor len records.now image.start) }
+    ensures end { IfOk result (λ image. end_in image.start ≤ len) }
+    ensures bad { (index : ℕ) → IsErrOf result (RecordFault.Bad index) → read_bodies len records.now ≡ Err index }
 {
     let bodies = bodies_of(alloc, records)?;
     let (rows, commands) = parts_of(alloc, bodies)?;
     let image = image_of_rows(alloc, &rows)?;
+    if let Some(index) = first_beyond(len, rows.len(), &commands) {
+        return Err(RecordFault::Bad { index });
+    }
     let image = replayed(image, &commands)?;
     let image = image.forget()?;
     Ok(image)
+}
+
+/// The number of the first command that names a piece beyond a block file of so many bytes, where the first of all has
+/// this number.
+fn first_beyond(len: u64, first: usize, commands: &[Cmd]) -> Option<usize>
+    requires { first < 2 ^ 63 }
+    ensures { result ≡ first_beyond len first commands.now }
+{
+    let mut index = first;
+    for cmd in commands {
+        if !lies_within(len, cmd) {
+            return Some(index);
+        }
+        index += 1;
+    }
+    None
+}
+
+/// Whether each piece that the command names ends within a block file of so many bytes.
+fn lies_within(len: u64, cmd: &Cmd) -> bool
+    ensures { result ≡ lies_within len cmd.now }
+{
+    match &cmd.act {
+        Act::MakeFolder { .. } => true,
+        Act::Upload { last, .. } => match last {
+            None => true,
+            Some(piece) => ends_within(len, piece),
+        },
+    }
+}
+
+fn ends_within(len: u64, piece: &Piece) -> bool
+    ensures { result ≡ ends_within len piece.now }
+{
+    piece.place <= len && piece.len as u64 <= len - piece.place
 }
 
 /// The image of rows whose last moment is one that a clock tells.

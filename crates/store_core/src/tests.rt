@@ -1,8 +1,11 @@
 ghost use Rattle.std.specs.Prelude.{◌≡◌, None, OnSome};
 
-use crate::{Store, StoreFault};
+use crate::{FetchFault, Store, StoreFault};
 use cmd_codec::{encode, has_spelling};
-use fh_model::{Act, Cmd, LAST_SECOND, Members, NoMemory, Reply, Row, SPENT_AT, Text};
+use fh_model::{
+    Act, BLOCK_BYTES, Cmd, Commit, Entry, LAST_SECOND, Members, Mode, NoMemory, Reply, Row,
+    SPENT_AT, Text,
+};
 use fh_world::{Disk, FileDisk, FileNo, FuseDisk, MemDisk};
 use gate_journal::{frame, lay};
 use state_rows::{encode_row, has_spelling as row_has_spelling};
@@ -37,6 +40,44 @@ fn make<D: Disk>(alloc: Global, store: &mut Store<D>, path: &str) -> Option<bool
     match store.commit(cmd, b"") {
         Ok(Reply::Entry(_)) => Some(true),
         Ok(Reply::Refused(_)) => Some(false),
+        Err(_) => None,
+    }
+}
+
+fn upload(alloc: Global, path: &str) -> Result<Cmd, NoMemory> {
+    let path = Text::new(String::from_str(alloc, path)?);
+    let commit = Commit {
+        path,
+        mode: Mode::Add,
+        rename: false,
+        strict: false,
+        client: None,
+    };
+    Ok(Cmd {
+        seat: 1,
+        at: AT,
+        act: Act::Upload {
+            user: 1,
+            commit,
+            drafted: 0,
+            last: None,
+        },
+    })
+}
+
+/// Uploads the bytes, and answers the rev that was written, or 0 for a refusal. None stands for a fault.
+fn send<D: Disk>(alloc: Global, store: &mut Store<D>, path: &str, bytes: &[u8]) -> Option<u64>
+    requires { store.old.waiting ≡ None }
+    ensures { OnSome result (store.new.waiting ≡ None) }
+{
+    let cmd = upload(alloc, path).ok()?;
+    if !has_spelling(&cmd) || bytes.len() > BLOCK_BYTES {
+        return None;
+    }
+    match store.commit(cmd, bytes) {
+        Ok(Reply::Entry(Entry::File { meta, .. })) => Some(meta.rev),
+        Ok(Reply::Entry(Entry::Folder { .. })) => None,
+        Ok(Reply::Refused(_)) => Some(0),
         Err(_) => None,
     }
 }
@@ -99,6 +140,138 @@ fn a_stop_at_any_call_leaves_what_was_acknowledged(rt: HostRuntime) -> Result<()
             assert!(rt; calls < 23 || found == Some(2));
         }
     }
+    Ok(())
+}
+
+/// Uploads one after another: a path with its bytes, and the rev that is written, 0 where it is refused and its bytes
+/// are left in a session.
+const UPLOADS: [(&str, &[u8], u64); 5] = [
+    ("/a.txt", b"hello", 1),
+    ("/a.txt", b"another", 0),
+    ("/a.txt", b"hello", 1),
+    ("/empty", b"", 2),
+    ("/b", b"world", 3),
+];
+
+/// How many of the uploads were acknowledged, and the disk. None stands for one that was answered otherwise.
+fn run_uploads(alloc: Global, disk: FuseDisk<MemDisk>) -> Option<(usize, FuseDisk<MemDisk>)> {
+    let mut store = match Store::open(alloc, disk) {
+        Ok(store) => store,
+        Err((disk, _)) => return Some((0, disk)),
+    };
+    let mut done: usize = 0;
+    for (path, bytes, want) in &UPLOADS {
+        if store.waits() {
+            break;
+        }
+        match send(alloc, &mut store, path, bytes) {
+            Some(rev) => {
+                if rev != *want {
+                    return None;
+                }
+            }
+            None => break,
+        }
+        done = done.saturating_add(1);
+    }
+    Some((done, store.into_disk()))
+}
+
+/// Whether the version is there with these bytes.
+fn has<D: Disk>(store: &mut Store<D>, rev: u64, bytes: &[u8]) -> bool {
+    match store.fetch(rev, 0) {
+        Ok(found) => found.as_slice() == bytes,
+        Err(FetchFault::NoBlock) => bytes.is_empty(),
+        Err(_) => false,
+    }
+}
+
+/// Whether each version that was acknowledged is there with its bytes, and each that isn't there wasn't.
+fn keeps<D: Disk>(store: &mut Store<D>, done: usize) -> bool {
+    for (index, (_, bytes, rev)) in UPLOADS.iter().enumerate() {
+        let known = store.image().meta(*rev).is_some();
+        if *rev != 0 && (known || index < done) && !has(store, *rev, bytes) {
+            return false;
+        }
+    }
+    true
+}
+
+#[test]
+fn uploads_survive_a_stop_at_any_call(rt: HostRuntime) -> Result<(), Fail> {
+    let alloc = rt.alloc();
+    for calls in 0..45 {
+        let (done, fuse) = run_uploads(alloc, FuseDisk::new(MemDisk::new(alloc)?, calls)).ok_or(
+            "the replies are these",
+        )?;
+        let disk = fuse.into_inner();
+        for choice in 0..64 {
+            let mut store = Store::open(alloc, disk.crashed(choice)?)
+                .ok()
+                .ok_or("the image opens")?;
+            assert!(rt;
+                keeps(&mut store, done),
+                "after {calls} calls, choice {choice}"
+            );
+        }
+        assert!(rt; calls < 43 || done == 5);
+    }
+    Ok(())
+}
+
+#[test]
+fn a_block_is_fetched_by_its_version_and_number(rt: HostRuntime) -> Result<(), Fail> {
+    let alloc = rt.alloc();
+    let mut store = Store::open(alloc, MemDisk::new(alloc)?)
+        .ok()
+        .ok_or("the store opens")?;
+    let sent = send(alloc, &mut store, "/a.txt", b"hello");
+    assert!(rt; sent == Some(1));
+    assert!(rt; store.fetch(1, 0)?.as_slice() == b"hello".as_slice());
+    for (rev, block, fault) in [
+        (1, 1, FetchFault::NoBlock),
+        (0, 0, FetchFault::NoRev),
+        (2, 0, FetchFault::NoRev),
+    ] {
+        assert!(rt; store.fetch(rev, block).err() == Some(fault));
+    }
+    let disk = store.into_disk();
+    assert!(rt; disk.bytes(FileNo::Blocks) == b"hello".as_slice());
+    Ok(())
+}
+
+/// Whether a store whose block file is cut to so many bytes is opened, or where it is damaged.
+fn cut(alloc: Global, disk: &MemDisk, len: usize) -> Result<Option<StoreFault>, Fail> {
+    let blocks = disk.bytes(FileNo::Blocks);
+    let short = MemDisk::with(
+        alloc,
+        disk.bytes(FileNo::Head),
+        disk.bytes(FileNo::SlotA),
+        b"",
+        &blocks[..len.min(blocks.len())],
+    )?;
+    match Store::open(alloc, short) {
+        Ok(_) => Ok(None),
+        Err((_, fault)) => Ok(Some(fault)),
+    }
+}
+
+#[test]
+fn a_record_whose_data_is_cut_is_damaged(rt: HostRuntime) -> Result<(), Fail> {
+    let alloc = rt.alloc();
+    let mut store = Store::open(alloc, MemDisk::new(alloc)?)
+        .ok()
+        .ok_or("the store opens")?;
+    let first = send(alloc, &mut store, "/a.txt", b"hello");
+    assert!(rt; first == Some(1) && !store.waits());
+    let made = make(alloc, &mut store, "/Docs").ok_or("no fault")?;
+    assert!(rt; made && !store.waits());
+    let second = send(alloc, &mut store, "/b", b"world");
+    assert!(rt; second == Some(2));
+    let disk = store.into_disk();
+    assert!(rt; cut(alloc, &disk, 4)? == Some(StoreFault::Damaged { place: 124 }));
+    assert!(rt; cut(alloc, &disk, 9)? == Some(StoreFault::Damaged { place: 265 }));
+    assert!(rt; cut(alloc, &disk, 10)? == None);
     Ok(())
 }
 

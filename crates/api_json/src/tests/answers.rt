@@ -1,6 +1,7 @@
 use crate::write;
 use api_types::Answer;
-use fh_model::{Entry, Items, Name, Refusal, Text};
+use fh_model::{Bytes32, Entry, FileMeta, Items, Name, Refusal, Text};
+use hex::FromHex;
 use serde_json::Value;
 use std::alloc::{AllocError, Global};
 use std::test::*;
@@ -52,13 +53,19 @@ fn written(alloc: Global, answer: &Answer) -> Result<String, Fail> {
 }
 
 #[test]
-fn a_folder_is_told_with_its_tag_or_without(rt: HostRuntime) -> Result<(), Fail> {
+fn a_folder_is_told_with_its_tag(rt: HostRuntime) -> Result<(), Fail> {
     let alloc = rt.alloc();
     let tagged = Answer::Tagged(folder(alloc, &[("Docs", "docs"), ("A", "a")])?);
     assert_eq!(rt;
         written(alloc, &tagged)?.as_str(),
         "{\".tag\":\"folder\",\"id\":\"id:00000000000000ab\",\"name\":\"A\",\"path_display\":\"/Docs/A\",\"path_lower\":\"/docs/a\"}"
     );
+    Ok(())
+}
+
+#[test]
+fn a_folder_is_told_under_metadata(rt: HostRuntime) -> Result<(), Fail> {
+    let alloc = rt.alloc();
     let wrapped = Answer::Wrapped {
         entry: folder(alloc, &[("Docs", "docs")])?,
         tagged: false,
@@ -69,11 +76,57 @@ fn a_folder_is_told_with_its_tag_or_without(rt: HostRuntime) -> Result<(), Fail>
         "{\"metadata\":{\"id\":\"id:00000000000000ab\",\"name\":\"Docs\",\"path_display\":\"/Docs\",\"path_lower\":\"/docs\"}}"
     );
     assert_eq!(rt; body.len(), 99usize);
+    Ok(())
+}
+
+#[test]
+fn a_folder_is_told_under_metadata_with_its_tag(rt: HostRuntime) -> Result<(), Fail> {
+    let alloc = rt.alloc();
     let both = Answer::Wrapped {
         entry: folder(alloc, &[("Docs", "docs")])?,
         tagged: true,
     };
     assert_eq!(rt; written(alloc, &both)?.len(), 115usize);
+    Ok(())
+}
+
+/// The file of the worked example, an empty one, at the path `/E.bin`.
+fn file(alloc: Global) -> Result<Entry, Fail> {
+    let shown = text(alloc, "E.bin")?;
+    let folded = text(alloc, "e.bin")?;
+    let mut names = Vec::new(alloc);
+    names.push(Name { shown, folded })?;
+    let bytes = <[u8; 32] as FromHex>::from_hex(
+        "e3b0c44298fc1c149afbf4c8996fb92427ae41e4649b934ca495991b7852b855",
+    ).ok()
+        .ok_or("no digest")?;
+    Ok(Entry::File {
+        names: Items::new(names),
+        meta: FileMeta {
+            id: 1,
+            rev: 171,
+            size: 0,
+            hash: Bytes32 { bytes },
+            client: 0,
+            server: 1_700_000_000,
+            pieces: Items::empty(alloc),
+        },
+    })
+}
+
+const FILE_FIELDS: &str =
+    "\"client_modified\":\"1970-01-01T00:00:00Z\",\"content_hash\":\"e3b0c44298fc1c149afbf4c8996fb92427ae41e4649b934ca495991b7852b855\",\"id\":\"id:0000000000000001\",\"is_downloadable\":true,\"name\":\"E.bin\",\"path_display\":\"/E.bin\",\"path_lower\":\"/e.bin\",\"rev\":\"00000000000000ab\",\"server_modified\":\"2023-11-14T22:13:20Z\",\"size\":0}";
+
+#[test]
+fn a_file_is_told_with_its_tag_or_without(rt: HostRuntime) -> Result<(), Fail> {
+    let alloc = rt.alloc();
+    let plain = written(alloc, &Answer::Plain(file(alloc)?))?;
+    assert_eq!(rt; plain.as_str().strip_prefix("{"), Some(FILE_FIELDS));
+    let tagged = written(alloc, &Answer::Tagged(file(alloc)?))?;
+    assert_eq!(rt;
+        tagged.as_str().strip_prefix("{\".tag\":\"file\","),
+        Some(FILE_FIELDS)
+    );
     Ok(())
 }
 
@@ -110,18 +163,30 @@ fn tags_nest(rt: HostRuntime) -> Result<(), Fail> {
 }
 
 #[test]
-fn a_refusal_names_its_session_or_offset(rt: HostRuntime) -> Result<(), Fail> {
+fn a_refused_upload_names_its_session(rt: HostRuntime) -> Result<(), Fail> {
     let alloc = rt.alloc();
     let upload = refusal(alloc, &["path", "conflict", "file"], Some(1), None)?;
     assert_eq!(rt;
         written(alloc, &upload)?.as_str(),
         "{\"error\":{\".tag\":\"path\",\"reason\":{\".tag\":\"conflict\",\"conflict\":{\".tag\":\"file\"}},\"upload_session_id\":\"us:0000000000000001\"},\"error_summary\":\"path/conflict/file/...\"}"
     );
+    Ok(())
+}
+
+#[test]
+fn a_refusal_names_the_right_offset(rt: HostRuntime) -> Result<(), Fail> {
+    let alloc = rt.alloc();
     let append = refusal(alloc, &["incorrect_offset"], None, Some(11))?;
     assert_eq!(rt;
         written(alloc, &append)?.as_str(),
         "{\"error\":{\".tag\":\"incorrect_offset\",\"correct_offset\":11},\"error_summary\":\"incorrect_offset/...\"}"
     );
+    Ok(())
+}
+
+#[test]
+fn the_last_of_the_tags_holds_the_offset(rt: HostRuntime) -> Result<(), Fail> {
+    let alloc = rt.alloc();
     let finish = refusal(
         alloc,
         &["lookup_failed", "incorrect_offset"],

@@ -2,6 +2,7 @@ use crate::fields::{Field, Kind, NUMBER_MAX, Rule};
 use crate::values::{Held, read_values};
 use crate::{ArgumentFault, FieldName, ReadFault, complaint, read};
 use api_types::{Request, Route};
+use fh_model::Mode;
 use serde_json::Value;
 use std::alloc::Global;
 use std::test::*;
@@ -11,6 +12,8 @@ use std::test::*;
 enum Told {
     Made,
     Found,
+    Uploaded,
+    Loaded,
     BadJson,
     Bad(FieldName),
     NoMemory,
@@ -20,6 +23,8 @@ fn outcome_of(alloc: Global, route: Route, bytes: &[u8]) -> Told {
     match read(alloc, route, bytes) {
         Ok(Request::CreateFolder { .. }) => Told::Made,
         Ok(Request::GetMetadata { .. }) => Told::Found,
+        Ok(Request::Upload { .. }) => Told::Uploaded,
+        Ok(Request::Download { .. }) => Told::Loaded,
         Err(ReadFault::BadJson) => Told::BadJson,
         Err(ReadFault::BadField { name }) => Told::Bad(name),
         Err(ReadFault::NoMemory) => Told::NoMemory,
@@ -98,6 +103,134 @@ const FINDS: [(&str, Told); 12] = [
     ("{\"path\":\"NS:1\"}", Told::Found),
 ];
 
+const UPLOADS: [(&str, Told); 36] = [
+    ("{\"path\":\"/a.txt\"}", Told::Uploaded),
+    (
+        "{\"path\":\"/a\",\"mode\":null,\"autorename\":null,\"client_modified\":null,\"strict_conflict\":null,\"content_hash\":null}",
+        Told::Uploaded,
+    ),
+    (
+        "{\"path\":\"/a\",\"mode\":\"add\",\"autorename\":false,\"mute\":7,\"strict_conflict\":false}",
+        Told::Uploaded,
+    ),
+    (
+        "{\"path\":\"/a\",\"mode\":{\".tag\":\"add\"}}",
+        Told::Uploaded,
+    ),
+    (
+        "{\"path\":\"/a\",\"mode\":{\".tag\":\"add\",\"update\":5}}",
+        Told::Uploaded,
+    ),
+    (
+        "{\"path\":\"/a\",\"client_modified\":\"2023-11-14T22:13:20Z\"}",
+        Told::Uploaded,
+    ),
+    (
+        "{\"path\":\"/a\",\"client_modified\":\"9999-12-31T23:59:59Z\"}",
+        Told::Uploaded,
+    ),
+    (
+        "{\"path\":\"/a\",\"content_hash\":\"9595c9df90075148eb06860365df33584b75bff782a510c6cd4883a419833d50\"}",
+        Told::Uploaded,
+    ),
+    ("{\"path\":\"\"}", Told::Uploaded),
+    ("", Told::Bad(FieldName::Path)),
+    ("null", Told::Bad(FieldName::Path)),
+    ("{\"mode\":7}", Told::Bad(FieldName::Path)),
+    (
+        "{\"path\":\"/a\",\"mode\":\"overwrite\"}",
+        Told::Bad(FieldName::Mode),
+    ),
+    (
+        "{\"path\":\"/a\",\"mode\":\"Add\"}",
+        Told::Bad(FieldName::Mode),
+    ),
+    (
+        "{\"path\":\"/a\",\"mode\":\"update\"}",
+        Told::Bad(FieldName::Mode),
+    ),
+    (
+        "{\"path\":\"/a\",\"mode\":{\"tag\":\"add\"}}",
+        Told::Bad(FieldName::Mode),
+    ),
+    (
+        "{\"path\":\"/a\",\"mode\":[\"add\"]}",
+        Told::Bad(FieldName::Mode),
+    ),
+    (
+        "{\"path\":\"/a\",\"mode\":true}",
+        Told::Bad(FieldName::Mode),
+    ),
+    (
+        "{\"path\":\"/a\",\"mode\":\"overwrite\",\"autorename\":true}",
+        Told::Bad(FieldName::Mode),
+    ),
+    (
+        "{\"path\":\"/a\",\"autorename\":true,\"client_modified\":5}",
+        Told::Bad(FieldName::Autorename),
+    ),
+    (
+        "{\"path\":\"/a\",\"client_modified\":\"2023-02-29T00:00:00Z\",\"strict_conflict\":true}",
+        Told::Bad(FieldName::ClientModified),
+    ),
+    (
+        "{\"path\":\"/a\",\"client_modified\":\"2023-11-14T22:13:20+00:00\"}",
+        Told::Bad(FieldName::ClientModified),
+    ),
+    (
+        "{\"path\":\"/a\",\"client_modified\":\"\"}",
+        Told::Bad(FieldName::ClientModified),
+    ),
+    (
+        "{\"path\":\"/a\",\"client_modified\":1700000000}",
+        Told::Bad(FieldName::ClientModified),
+    ),
+    (
+        "{\"path\":\"/a\",\"strict_conflict\":true,\"content_hash\":\"\"}",
+        Told::Bad(FieldName::StrictConflict),
+    ),
+    (
+        "{\"path\":\"/a\",\"strict_conflict\":0}",
+        Told::Bad(FieldName::StrictConflict),
+    ),
+    (
+        "{\"path\":\"/a\",\"content_hash\":\"\"}",
+        Told::Bad(FieldName::ContentHash),
+    ),
+    (
+        "{\"path\":\"/a\",\"content_hash\":\"9595C9df90075148eb06860365df33584b75bff782a510c6cd4883a419833d50\"}",
+        Told::Bad(FieldName::ContentHash),
+    ),
+    (
+        "{\"path\":\"/a\",\"content_hash\":\"9595c9df90075148eb06860365df33584b75bff782a510c6cd4883a419833d5\"}",
+        Told::Bad(FieldName::ContentHash),
+    ),
+    (
+        "{\"path\":\"/a\",\"content_hash\":\"9595c9df90075148eb06860365df33584b75bff782a510c6cd4883a419833d500\"}",
+        Told::Bad(FieldName::ContentHash),
+    ),
+    (
+        "{\"path\":\"/a\",\"content_hash\":\"9595c9df90075148eb06860365df33584b75bff782a510c6cd4883a419833d5g\"}",
+        Told::Bad(FieldName::ContentHash),
+    ),
+    (
+        "{\"path\":\"/a\",\"content_hash\":0}",
+        Told::Bad(FieldName::ContentHash),
+    ),
+    ("{", Told::BadJson),
+    ("{\"path\":\"/a\"} {}", Told::BadJson),
+    ("\"/a\"", Told::Bad(FieldName::Path)),
+    ("{\"path\":5}", Told::Bad(FieldName::Path)),
+];
+
+const DOWNLOADS: [(&str, Told); 5] = [
+    ("{\"path\":\"rev:0000000000000001\"}", Told::Loaded),
+    ("{\"path\":\"\"}", Told::Loaded),
+    ("{\"path\":\"ns:1\",\"rev\":null}", Told::Loaded),
+    ("", Told::Bad(FieldName::Path)),
+    ("{\"path\":[]}", Told::Bad(FieldName::Path)),
+];
+
 /// The first text that comes to something else, if there is one.
 fn first_untold(
     alloc: Global,
@@ -116,6 +249,8 @@ fn first_untold(
 fn an_argument_makes_a_request_or_names_its_first_bad_field(rt: HostRuntime) -> Result<(), Fail> {
     assert_eq!(rt; first_untold(rt.alloc(), Route::CreateFolder, &MAKES), None);
     assert_eq!(rt; first_untold(rt.alloc(), Route::GetMetadata, &FINDS), None);
+    assert_eq!(rt; first_untold(rt.alloc(), Route::Upload, &UPLOADS), None);
+    assert_eq!(rt; first_untold(rt.alloc(), Route::Download, &DOWNLOADS), None);
     Ok(())
 }
 
@@ -161,6 +296,95 @@ fn a_request_has_the_values_of_its_fields(rt: HostRuntime) -> Result<(), Fail> {
     };
     assert_eq!(rt; path.as_str(), "/Caf\u{e9}\n");
     assert!(rt; !autorename);
+    Ok(())
+}
+
+#[test]
+fn an_upload_has_its_moment_and_its_hash(rt: HostRuntime) -> Result<(), Fail> {
+    let Ok(
+        Request::Upload {
+            commit,
+            content_hash,
+        },
+    ) = read(
+        rt.alloc(),
+        Route::Upload,
+        b"{\"path\":\"/a.txt\",\"client_modified\":\"2000-02-29T00:00:01Z\",\"content_hash\":\"000102030405060708090a0b0c0d0e0f101112131415161718191a1b1c1d1eff\"}",
+    )
+    else {
+        return Err("no request".into());
+    };
+    assert_eq!(rt; commit.path.as_str(), "/a.txt");
+    assert_eq!(rt; commit.mode, Mode::Add);
+    assert_eq!(rt; commit.client, Some(951_782_401));
+    assert!(rt; !commit.rename && !commit.strict);
+    let Some(hash) = content_hash else {
+        return Err("no hash".into());
+    };
+    assert_eq!(rt;
+        (hash.bytes[0], hash.bytes[30], hash.bytes[31]),
+        (0u8, 30u8, 255u8)
+    );
+    Ok(())
+}
+
+/// The mode that a text writes, or none where it writes none.
+fn mode(alloc: Global, text: &str) -> Option<Mode> {
+    let fields = [Field {
+        name: FieldName::Mode,
+        kind: Kind::Mode,
+        rule: Rule::Any,
+    }];
+    let argument = Value::from_str(alloc, text).ok()?;
+    let mut values = read_values(alloc, &argument, fields.as_slice()).ok()?;
+    match values.pop_front() {
+        Some(Held::Mode(mode)) => Some(mode),
+        _ => None,
+    }
+}
+
+const MODES: [(&str, Option<Mode>); 16] = [
+    ("{}", Some(Mode::Add)),
+    ("{\"mode\":null}", Some(Mode::Add)),
+    ("{\"mode\":\"add\"}", Some(Mode::Add)),
+    ("{\"mode\":\"overwrite\"}", Some(Mode::Overwrite)),
+    ("{\"mode\":{\".tag\":\"overwrite\"}}", Some(Mode::Overwrite)),
+    (
+        "{\"mode\":{\".tag\":\"update\",\"update\":\"00000000000000ff\"}}",
+        Some(Mode::Update(255)),
+    ),
+    (
+        "{\"mode\":{\".tag\":\"update\",\"update\":\"ffffffffffffffff\"}}",
+        Some(Mode::Update(u64::MAX)),
+    ),
+    (
+        "{\"mode\":{\".tag\":\"update\",\"update\":\"123456789\"}}",
+        Some(Mode::Update(0)),
+    ),
+    (
+        "{\"mode\":{\".tag\":\"update\",\"update\":\"12345678901234567\"}}",
+        Some(Mode::Update(0)),
+    ),
+    (
+        "{\"mode\":{\".tag\":\"update\",\"update\":\"12345678\"}}",
+        None,
+    ),
+    (
+        "{\"mode\":{\".tag\":\"update\",\"update\":\"00000000000000FF\"}}",
+        None,
+    ),
+    ("{\"mode\":{\".tag\":\"update\",\"update\":1}}", None),
+    ("{\"mode\":{\".tag\":\"update\"}}", None),
+    ("{\"mode\":\"update\"}", None),
+    ("{\"mode\":{\".tag\":null}}", None),
+    ("{\"mode\":5}", None),
+];
+
+#[test]
+fn a_mode_is_a_text_or_has_a_tag(rt: HostRuntime) -> Result<(), Fail> {
+    for (text, want) in MODES {
+        assert!(rt; mode(rt.alloc(), text) == want);
+    }
     Ok(())
 }
 

@@ -6,7 +6,7 @@ use std::test::*;
 
 /// What a request is told.
 #[derive(Clone, Copy)]
-enum Told {
+pub(crate) enum Told {
     /// 200 with this body.
     Done(&'static str),
 
@@ -35,7 +35,7 @@ const MADE_A: &str =
 const MALFORMED: &str =
     "{\"error\":{\".tag\":\"path\",\"path\":{\".tag\":\"malformed_path\"}},\"error_summary\":\"path/malformed_path/...\"}";
 
-const NOT_FOUND: &str =
+pub(crate) const NOT_FOUND: &str =
     "{\"error\":{\".tag\":\"path\",\"path\":{\".tag\":\"not_found\"}},\"error_summary\":\"path/not_found/...\"}";
 
 const CONFLICT: &str =
@@ -58,14 +58,14 @@ const MAKE: &str = "POST /2/files/create_folder_v2 HTTP/1.1\r\nAuthorization: Be
 const LOOK: &str = "POST /2/files/get_metadata HTTP/1.1\r\nAuthorization: Bearer rootroot\r\n";
 
 /// A request of these first lines, with the length of its body.
-fn request(alloc: Global, lines: &str, body: &[u8]) -> Result<Vec<u8>, AllocError> {
+pub(crate) fn request(alloc: Global, lines: &str, body: &[u8]) -> Result<Vec<u8>, AllocError> {
     let length = body.len();
     let head = format!(in alloc; "{lines}Content-Length: {length}\r\n\r\n")?;
     joined(alloc, &[head.as_bytes(), body])
 }
 
 /// The text of a reply behind which the connection goes on.
-fn reply(alloc: Global, told: Told) -> Result<String, AllocError> {
+pub(crate) fn reply(alloc: Global, told: Told) -> Result<String, AllocError> {
     let json = "application/json";
     let plain = "text/plain; charset=utf-8";
     let (line, kind, body) = match told {
@@ -97,7 +97,7 @@ const REFUSED: [(&str, &str, Told); 15] = [
         Told::NoRoute,
     ),
     (
-        "POST /2/files/upload HTTP/1.1\r\nAuthorization: Bearer rootroot\r\n",
+        "POST /2/files/uploads HTTP/1.1\r\nAuthorization: Bearer rootroot\r\n",
         "hello",
         Told::NoRoute,
     ),

@@ -12,4 +12,4 @@ returns-clause-ran g c =
     let served = c.serve_store-status.result in
     rw c.into_disk.ensures.disk
     (inl (pipe_served g.D.Disk g.S.Source g.K.Sink (g.C.Clock.second c.args.clock.now) c.args.admin.now c.args.disk c.args.input served.2 c.args.output served.3 served.0
-    c.in-Ok.store served.1 c.in-Ok.ensures.image c.in-Ok.ensures.found c.in-Ok.ensures.kept c.in-Ok.ensures.any_moment c.in-Ok.ensures.later c.serve_store-status.ensures.served))
+    c.in-Ok.store served.1 c.in-Ok.ensures.image c.in-Ok.ensures.found c.in-Ok.ensures.kept c.in-Ok.ensures.meaning c.in-Ok.ensures.any_moment c.in-Ok.ensures.later c.serve_store-status.ensures.served))

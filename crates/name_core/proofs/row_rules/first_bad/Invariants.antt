@@ -1,4 +1,4 @@
-use Rattle.std.proofs.Common.{◌≡◌, ℕ, drop, option_copied}
+use Rattle.std.proofs.Common.{◌≡◌, drop, option_copied}
 use Rattle.fh_model.specs.RowRules.{bad_from, first_bad}
 use Rattle.name_core.proofs.row_rules.first_bad.Given as goal
 

@@ -1,5 +1,5 @@
 use Rattle.std.proofs.Common.{◌≡◌, ◌+◌, ◌++◌, drop}
-use Rattle.fh_model.specs.Step.{folders}
+use Rattle.fh_model.specs.Folders.{folders}
 use Rattle.name_core.proofs.writing.folders.Given as goal
 
 abbrev pub invariant-loop-names : goal.invariant-loop-names

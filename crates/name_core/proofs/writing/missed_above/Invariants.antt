@@ -1,5 +1,4 @@
 use Rattle.std.proofs.Common.{◌≡◌, ◌-◌, ◌≤◌, length}
-use Rattle.fh_model.specs.WritePlaces.{missed_above}
 use Rattle.name_core.proofs.Missed.{missed_to}
 use Rattle.name_core.proofs.writing.missed_above.Given as goal
 

@@ -1,7 +1,8 @@
-use Rattle.std.proofs.Common.{ℕ, [], ◌++◌, List, refl, ◌∙◌, take, arith, option_map}
+use Rattle.std.proofs.Common.{ℕ, [], ◌++◌, List, refl, ◌∙◌, take, arith}
 use Rattle.http_in.proofs.ReadingFacts.{place_inside, content_none, content_more, read_done, read_cut, read_bad, read_large, read_fault, read_memory, read_none}
-use Rattle.session_http.proofs.Kept.{holds_empty, keeps_more}
+use Rattle.session_http.proofs.Kept.{few_none, holds_gone, holds_whole}
 use Rattle.session_http.proofs.bodies.read_body.Goals as goal
+use Rattle.session_http.proofs.bodies.read_body.Goals.{then-keeps, else-keeps}
 
 pub portions-init : goal.portions-init
 portions-init g c =
@@ -10,8 +11,12 @@ portions-init g c =
       so_far = record {
         content = [];
         so_far = content_none g.S.Source.given g.S.Source.left c.args.source.now c.args.reader.now.held [] c.args.reader.now.state at.0 at.1;
-        holds = holds_empty (λ bytes. bytes.items) c.args.buffer c.requires.empty;
+        holds = elim c.if-keeps.branch [
+          | then-keeps w ↦ holds_whole c.if-keeps.body c.args.buffer.now.items w.body-is c.requires.empty
+          | else-keeps w ↦ holds_gone c.if-keeps.body c.args.buffer.now.items w.body-is
+        ];
       };
+      few = few_none c.args.buffer.now.items c.requires.empty;
       place = refl;
       later = omega arith;
     }
@@ -26,8 +31,9 @@ portions-preserved g c =
         so_far = content_more g.S.Source.given g.S.Source.left c.args.source.now c.portions.source c.body.new.source c.args.reader.now.held
             c.portions.reader.held c.body.new.self.held c.args.reader.now.state c.portions.reader.state c.body.new.self.state
             [] so.content (so.content ++ more) c.body.new.buf c.in-Bytes.count so.so_far c.in-Bytes.ensures.step refl;
-        holds = keeps_more (option_map (λ bytes. bytes.items) c.portions.kept) (option_map (λ bytes. bytes.items) c.keep-kept.result) so.content more so.holds c.keep-kept.ensures;
+        holds = c.keep-body.ensures.more so.content so.holds;
       };
+      few = c.keep-body.ensures.few;
       place = c.body.ensures.place ∙ c.portions.invariant.place;
       later = omega (arith, c.portions.invariant.later, c.body.ensures.later);
     }

@@ -1,6 +1,7 @@
 use Rattle.std.proofs.Common.{refl}
 use Rattle.session_rules.specs.Replies.{bad_request, head_too_large}
-use Rattle.session_http.proofs.Receives.{stops_bad, stops_cut, stops_end, stops_large, stops_memory, stops_read}
+use Rattle.session_http.specs.Points.{called_if}
+use Rattle.session_http.proofs.Receives.{opens_by, stops_bad, stops_cut, stops_end, stops_large, stops_memory, stops_read}
 use Rattle.session_http.proofs.receiving.read_head.Goals as goal
 
 pub returns-in-End-clause-err : goal.returns-in-End-clause-err
@@ -40,3 +41,11 @@ returns-in-NoMemory-clause-err g c =
     let conn = c.args.conn.now in
     stops_memory g.P.View g.S.Source g.K.Sink (g.C.Clock.second c.args.clock.now) c.args.admin.now conn.answered c.args.port.now conn.source c.next.new.source
     conn.sink conn.reader.held c.next.new.self.held c.in-NoMemory.ensures.step c.in-NoMemory.ensures.later
+
+pub returns-in-Ok-clause-ok : goal.returns-in-Ok-clause-ok
+returns-in-Ok-clause-ok g c =
+    let conn = c.args.conn.now in
+    let caller = c.find_caller-call.ensures in
+    opens_by g.P.View g.S.Source g.K.Sink (g.C.Clock.second c.args.clock.now) c.args.admin.now conn.answered c.args.port.now c.find_caller-call.new.port
+    conn.source c.next.new.source conn.sink c.greet.new.sink conn.reader.held c.next.new.self.held c.in-Head.head (called_if c.find_caller-call.result)
+    c.in-Head.ensures.step c.in-Head.ensures.later caller.calls caller.waits caller.blocks caller.number caller.faults c.in-Ok.ensures.later c.in-Ok.ensures.ok

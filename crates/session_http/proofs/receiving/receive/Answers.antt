@@ -1,4 +1,4 @@
-use Rattle.std.proofs.Common.{◌++◌, option_map}
+use Rattle.std.proofs.Common.{◌++◌}
 use Rattle.session_rules.specs.Connection.{interim_of}
 use Rattle.session_rules.specs.Replies.{bad_request, body_too_large}
 use Rattle.session_http.specs.Points.{called_if}
@@ -22,7 +22,7 @@ returns-in-Done-clause-ok g c =
     begun.reader.held c.read_body-end.new.reader.held c.read_body-end.ensures.later in
     hears t old mid now (called_if c.in-Ok.opened.call) c.in-Ok.opened.head c.in-Ok.ensures.ok begun.reader.state c.in-Ok.ensures.inside
     read.place read.inside read.fresh read.added body.content read.moves.gave read.moves.took by read.gained
-    (option_map (λ bytes. bytes.items) c.read_body-end.result.1) body.holds (rw c.in-Done.is at read.came)
+    c.read_body-end.result.1 c.read_body-end.new.buffer.items body.holds (rw c.in-Done.is at read.came)
 
 pub returns-in-Cut-clause-err : goal.returns-in-Cut-clause-err
 returns-in-Cut-clause-err g c =
@@ -122,8 +122,8 @@ returns-in-NoMemory-clause-err g c =
     stops_memory t old mid now (called_if c.in-Ok.opened.call) c.in-Ok.opened.head c.in-Ok.ensures.ok begun.reader.state c.in-Ok.ensures.inside
     read.place read.inside read.fresh read.added body.content read.moves.gave read.moves.took by read.gained
 
-pub returns-clause-err : goal.returns-clause-err
-returns-clause-err g c =
+pub returns-in-Unread-clause-err : goal.returns-in-Unread-clause-err
+returns-in-Unread-clause-err g c =
     let P = g.P.View in let S = g.S.Source in let K = g.K.Sink in
     let t = terms P.alone (g.C.Clock.second c.args.clock.now) c.args.admin.now in
     let conn = c.args.conn.now in

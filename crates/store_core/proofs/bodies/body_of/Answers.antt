@@ -1,4 +1,4 @@
-use Rattle.std.proofs.Common.{rules, ◌≡◌, Err, sym, ◌∙◌, ap, arith}
+use Rattle.std.proofs.Common.{◌≡◌, Err, sym, ◌∙◌, ap, arith}
 use Rattle.byte_formats.specs.declared.fault.CodecFault.TheVariants.{Bad}
 use Rattle.store_core.proofs.BodyLemmas.{body_command, body_row, body_none}
 use Rattle.store_core.proofs.bodies.body_of.Goals as goal

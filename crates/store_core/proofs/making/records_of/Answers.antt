@@ -1,10 +1,6 @@
-use Rattle.std.proofs.Common.{rules, ◌≡◌, ◌∙◌, Ok, sym, ap, List, [], ◌∷◌, ◌++◌, map, take, get_or, ℕ, subst}
-use Rattle.std.proofs.lemmas.List.{take_more}
+use Rattle.std.proofs.Common.{rules, ◌≡◌, ◌∙◌, sym, ap, List, [], ◌∷◌, ◌++◌, get_or, ℕ, subst}
 use Rattle.byte_formats.specs.Spelling.{Spells}
-use Rattle.fh_model.specs.declared.rows.Row.{Row}
 use Rattle.state_rows.specs.Rows.{checkpoint_row}
-use Rattle.store_core.specs.declared.bodies.Body.{Body}
-use Rattle.store_core.specs.declared.bodies.Body.TheVariants as body
 use Rattle.store_core.specs.Bodies.{bodies_from}
 use Rattle.store_core.proofs.BodyLemmas.{records_more}
 use Rattle.store_core.proofs.making.records_of.Goals as goal

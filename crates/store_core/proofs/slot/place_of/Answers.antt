@@ -1,7 +1,5 @@
-use Rattle.std.proofs.Common.{rules, ◌≡◌, ◌≤◌, ◌∙◌, ap, arith, length, take}
-use Rattle.gate_journal.specs.Slot.{records}
-use Rattle.store_core.specs.Bodies.{place_of}
-use Rattle.store_core.proofs.PlaceLemmas.{front_within, place_end}
+use Rattle.std.proofs.Common.{arith}
+use Rattle.store_core.proofs.PlaceLemmas.{front_within}
 use Rattle.store_core.proofs.slot.place_of.Goals as goal
 
 pub returns-then-index-records : goal.returns-then-index-records

@@ -1,9 +1,9 @@
 use Rattle.std.proofs.Common.{rules, ◌≡◌, ◌∙◌, sym, ap, List, [], ◌∷◌, ◌++◌, take, get_or}
 use Rattle.std.proofs.lemmas.List.{take_more}
 use Rattle.fh_model.specs.declared.commands.Cmd.{Cmd}
-use Rattle.fh_model.specs.History.{Kept, state_of, state_after, next_of}
+use Rattle.fh_model.specs.History.{state_of, state_after, next_of}
 use Rattle.fh_model.specs.State.{State}
-use Rattle.fh_model.specs.Step.{Stepped, step}
+use Rattle.fh_model.specs.Step.{step}
 use Rattle.fh_model.proofs.Runs.{state_after_more}
 use Rattle.store_core.proofs.StepLemmas.{state_next}
 use Rattle.store_core.proofs.slot.replayed.Goals as goal

@@ -1,8 +1,7 @@
-use Rattle.std.proofs.Common.{◌≡◌, ℕ, suc, ◌<◌, ◌==◌, List, [], ◌∷◌, Option, Some, find, get_or, length, drop, refl, sym, ap, ◌∙◌, drop-cons}
+use Rattle.std.proofs.Common.{◌≡◌, ℕ, suc, ◌<◌, ◌==◌, List, Option, Some, find, get_or, length, drop, sym, ap, ◌∙◌, drop-cons}
 use Rattle.std.specs.Option.{option_map}
 use Rattle.fh_model.specs.declared.changes.Item.{Item}
 use Rattle.fh_model.specs.declared.names.Name.{Name}
-use Rattle.fh_model.specs.declared.paths.Place.{Place}
 use Rattle.fh_model.specs.Nodes.{id_of}
 use Rattle.fh_model.specs.Places.{or_else, place_of_id}
 use Rattle.fh_model.specs.State.{State, tree_in}
