@@ -179,11 +179,10 @@ class Bench:
         note = "counts for nothing" if wanted is None else "wanted %.1f" % wanted
         print("%-44s %7.0f%s, plain %7.0f%s, ratio %.2f (%s)" % (what, ours, unit, beside, unit, ratio, note), flush=True)
 
-    def small(self, size, count):
-        """Uploads a second of small files."""
-        record = self.record_bytes(size)
+    def uploads(self, count, size, named, beside):
+        """The best seconds of both sides, for so many uploads into a new store."""
         write(self.place("none"), [])
-        write(self.place("all"), (upload(number, size) for number in range(count)))
+        write(self.place("all"), (upload(number, size, named) for number in range(count)))
         idle = min(self.serve_anew("none")[0] for _ in range(TURNS))
 
         def ours():
@@ -191,28 +190,26 @@ class Bench:
             self.right = self.right and are_uploaded(count, size, output)
             return passed - idle
 
+        return self.best(ours, beside)
+
+    def small(self, size, count):
+        """Uploads a second of small files."""
+        record = self.record_bytes(size)
+
         def beside():
             return self.plain("commits", self.folder, count, size, record)
 
-        passed, loop = self.best(ours, beside)
+        passed, loop = self.uploads(count, size, False, beside)
         what = "uploads of %d bytes, to %d files" % (size, count)
         self.tell(what, count / passed, count / loop, "/s", WANTED_UPLOADS)
 
     def large_uploads(self, named):
         """Megabytes a second of uploads."""
-        write(self.place("none"), [])
-        write(self.place("all"), (upload(number, BLOCK, named) for number in range(LARGE)))
-        idle = min(self.serve_anew("none")[0] for _ in range(TURNS))
-
-        def ours():
-            passed, output = self.serve_anew("all")
-            self.right = self.right and are_uploaded(LARGE, BLOCK, output)
-            return passed - idle
 
         def beside():
             return self.hashed() + self.plain("writes", self.folder, LARGE, BLOCK)
 
-        passed, loop = self.best(ours, beside)
+        passed, loop = self.uploads(LARGE, BLOCK, named, beside)
         megabytes = LARGE * BLOCK / 1e6
         what = "uploads of 4 MiB" + (" that name their hash" if named else "")
         self.tell(what, megabytes / passed, megabytes / loop, " MB/s", None if named else WANTED_BYTES)
