@@ -12,8 +12,8 @@ Uploads a second: new files of 5 and of 4,096 bytes, on one connection, all requ
 into a new store. Each reply is written once its upload is durable, before the next request is looked at, so the syncs are
 done one after another as if the client waited for each reply. Beside it is a plain loop of the same writes of the
 same sizes: the data behind the end of one file, fdatasync; the record behind the gate in a second file, fdatasync; the
-gate, fdatasync. As a commit copies the machine, the rate falls as the store grows; so there is a row for a store that
-grows from none to 100 files, and one to 1,000.
+gate, fdatasync. As a commit copies a pointer for each item of the machine's lists and looks at each name of the tree, the rate
+falls as the store grows; so there is a row for a store that grows from none to 100 files, and one to 1,000.
 
 Megabytes a second: files of 4 MiB, on one connection likewise. Beside uploads stands the time of the kit's SHA-256
 alone for as many bytes, by content_hash_bench, and that of a plain loop of write and fdatasync for each file, together. An

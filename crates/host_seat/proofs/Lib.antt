@@ -1,1 +1,2 @@
 mod Commits
+pub mod PortLaws

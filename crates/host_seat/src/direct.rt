@@ -92,4 +92,8 @@ impl<D: Disk> Port for Direct<D> {
             Err(store_core::FetchFault::NoMemory) => Err(FetchFault::NoMemory),
         }
     }
+
+    fn give_back(&mut self, bytes: Vec<u8>) {
+        self.store.give_back(bytes);
+    }
 }

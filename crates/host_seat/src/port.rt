@@ -80,4 +80,8 @@ pub trait Port: View {
         ensures number { Self.number self.new ≡ Self.number self.old }
         ensures later { Self.faults self.old ≤ Self.faults self.new }
         ensures went { Self.went self.old self.new };
+
+    /// Takes the bytes of a block back, so that another one can be fetched into their room. The port stays as it is.
+    fn give_back(&mut self, bytes: Vec<u8>)
+        ensures { self.new ≡ self.old };
 }

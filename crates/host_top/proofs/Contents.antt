@@ -9,10 +9,9 @@ use Rattle.fh_model.specs.State.{State}
 use Rattle.fh_model.specs.Step.{step}
 use Rattle.fh_model.proofs.HeldLaws.{held_next, held_same}
 use Rattle.fh_model.proofs.Runs.{state_after-append}
-use Rattle.session_rules.specs.Connection.{Desk, Kind, SendAll, ShowAll, Turn, blocks_behind, blocks_in, broken_off, cmd_of, cmd_with, decision, entered_as, entered_by, fetched, gained, gained_in, put_as, put_by, told, unavailable}
+use Rattle.session_rules.specs.Connection.{Desk, IsAlone, Kind, SendAll, ShowAll, Turn, blocks_behind, blocks_in, broken_off, cmd_of, cmd_with, decision, entered_as, entered_by, fetched, gained, gained_in, put_as, put_by, told, unavailable}
 use Rattle.session_rules.specs.Decisions.{Decision, says, enters, looks, loads}
 use Rattle.session_rules.proofs.Blocks.{blocks_alone, content_same, gained_alone, reaches, state_alone}
-use Rattle.session_http.specs.Talk.{IsAlone}
 use Rattle.store_core.proofs.BlockLemmas.{after_grows, fewer_same}
 use Rattle.host_top.specs.Pipe.{SentFrom}
 

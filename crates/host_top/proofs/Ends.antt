@@ -1,5 +1,6 @@
 -- How a run of `pipe` and its status follow from the opening of the store and from the connection.
 use Rattle.std.proofs.Common.{◌≡◌, ◌⊎◌, ℕ, ◌+◌, ◌<◌, ◌≤◌, List, [], ◌++◌, length, Bool, Option, None, Some, Result, Ok, Err, ◌∙◌, ap, sym, refl, subst, append-nil, inl, inr, arith, true, false, IsTrue, take}
+use Rattle.std.proofs.Math.Nat.{add-zero}
 use Rattle.fh_world.specs.Bytes.{Moves}
 use Rattle.fh_world.specs.Causes.{Rose}
 use Rattle.fh_world.specs.Disk.{Files, LeavesOnly}
@@ -17,6 +18,7 @@ use Rattle.gate_journal.specs.Slot.{Found, Held, Broken, found}
 use Rattle.host_seat.specs.Direct.{told_by, Between, Ran}
 use Rattle.host_seat.specs.Port.{KeepsPieces, OfBoth}
 use Rattle.host_seat.specs.RunLaws.{follows_same, follows_more, follows_waiting}
+use Rattle.host_seat.proofs.PortLaws.{keeps_same}
 use Rattle.http_in.specs.Heads.{IsOpenTarget}
 use Rattle.session_rules.specs.Connection.{IsStored, blocks_behind, gained}
 use Rattle.session_http.specs.Ends.{Served}
@@ -26,7 +28,6 @@ use Rattle.session_http.specs.declared.conn.ConnEnd.{ConnEnd}
 use Rattle.session_http.specs.declared.conn.ConnEnd.TheVariants as end
 use Rattle.fh_model.proofs.Runs.{state_more, with_nothing}
 use Rattle.session_http.proofs.Complete.{complete}
-use Rattle.session_http.proofs.Callers.{keeps_same}
 use Rattle.session_http.proofs.Serves.{SoFar, serve_none, served_on}
 use Rattle.session_http.proofs.Talks.{all_alone, below_nothing, known_none, known_nothing, stored_idle, talk_starts}
 use Rattle.store_core.specs.Bodies.{at_place, read_bodies, read_found}
@@ -47,9 +48,6 @@ use Rattle.host_top.specs.declared.status.Status.TheVariants as status
 
 -- ---- a connection told from an earlier moment of its disk
 
-none_on : (n : ℕ) → n ≡ n + 0
-none_on n = omega arith
-
 -- nothing was read, written or let in since, and the pieces of the state kept their bytes
 opened_since : (t : Terms) (before : Moment) (faults : ℕ) (blocks : Option (List ℕ)) → faults ≤ before.port_faults
     → (IsTrue t.alone → KeepsPieces (first before) blocks before.blocks) → SoFar t (record before { port_faults = faults; blocks = blocks }) before
@@ -69,7 +67,7 @@ opened_since t before faults blocks le keeps =
       };
       stored = stored_idle t (record before { port_faults = faults; blocks = blocks }) before keeps;
       whole = λ k d h. absurd (below_nothing k h);
-      counted = none_on before.count;
+      counted = sym (add-zero before.count);
       waits = inl refl;
       going = λ k d h. absurd (below_nothing k h);
       port_later = le;

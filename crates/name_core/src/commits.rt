@@ -13,6 +13,7 @@ ghost use Rattle.name_core.specs.Committing.{committed_of};
 use crate::files::{file_of, hash_on, id_over, next_over, size_of};
 use crate::machine::{Machine, grow_all, tags_of};
 use crate::places::{is_below_file, path_of};
+use crate::shared::Shared;
 use crate::trees::item_at;
 use crate::verdicts::verdict;
 use crate::writing::{folders, missed_above, shown_in};
@@ -67,16 +68,18 @@ impl Machine {
         let alloc = self.alloc();
         let told = self.names_in_view(home, number, names.as_slice())?;
         let mut changes = folders(alloc, self.next.id, missed)?;
-        changes.push(Change::Put {
+        let change = Change::Put {
             names: names.copy()?,
             node: Node::File(meta.copy()?),
-        })?;
-        let mut revisions = copy_all(alloc, &self.revisions)?;
-        revisions.push(Revision {
+        };
+        changes.push(Shared::new(alloc, change)?)?;
+        let revision = Revision {
             ns: number,
             names,
             file: meta.copy()?,
-        })?;
+        };
+        let mut revisions = copy_all(alloc, &self.revisions)?;
+        revisions.push(Shared::new(alloc, revision)?)?;
         let machine = Machine {
             users: copy_all(alloc, &self.users)?,
             namespaces: grow_all(alloc, &self.namespaces, number, &changes)?,
@@ -100,7 +103,7 @@ impl Machine {
         number: u64,
         missed: &[Names],
         names: Names,
-        item: Option<&Item>,
+        item: Option<&Shared<Item>>,
         commit: &Commit,
         pieces: &Pieces,
     ) -> Result<Committed, NoMemory>
@@ -129,7 +132,7 @@ impl Machine {
         home: u64,
         number: u64,
         names: Names,
-        item: Option<&Item>,
+        item: Option<&Shared<Item>>,
         commit: &Commit,
         pieces: &Pieces,
     ) -> Result<Committed, NoMemory>
@@ -182,7 +185,7 @@ impl Machine {
         home: u64,
         number: u64,
         names: &[Name],
-        item: Option<&Item>,
+        item: Option<&Shared<Item>>,
         commit: &Commit,
         pieces: &Pieces,
     ) -> Result<Committed, NoMemory>
@@ -205,7 +208,7 @@ impl Machine {
         home: u64,
         number: u64,
         names: Names,
-        item: Option<&Item>,
+        item: Option<&Shared<Item>>,
         commit: &Commit,
         pieces: &Pieces,
     ) -> Result<Committed, NoMemory>

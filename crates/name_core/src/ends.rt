@@ -3,6 +3,7 @@ ghost use Rattle.std.specs.Prelude.{◌≡◌, ◌≤◌, ◌^◌, ◌+◌, max,
 ghost use Rattle.fh_model.specs.Pieces.{end_in, last_end, session_pieces};
 
 use crate::machine::Machine;
+use crate::shared::Shared;
 use fh_model::{BlockPiece, Piece, Revision, Session};
 
 /// The greater of an end and the last end of the pieces.
@@ -28,7 +29,7 @@ fn end_over_held(end: u64, held: &[BlockPiece]) -> u64
     end
 }
 
-fn end_of_revisions(revisions: &[Revision]) -> u64
+fn end_of_revisions(revisions: &[Shared<Revision>]) -> u64
     requires { last_end (flat_map (λ kept. kept.file.pieces) revisions.now) ≤ 2 ^ 62 }
     ensures { result ≡ last_end (flat_map (λ kept. kept.file.pieces) revisions.now) }
 {
@@ -39,7 +40,7 @@ fn end_of_revisions(revisions: &[Revision]) -> u64
     end
 }
 
-fn end_of_sessions(sessions: &[Session]) -> u64
+fn end_of_sessions(sessions: &[Shared<Session>]) -> u64
     requires { last_end (flat_map session_pieces sessions.now) ≤ 2 ^ 62 }
     ensures { result ≡ last_end (flat_map session_pieces sessions.now) }
 {

@@ -7,6 +7,7 @@ ghost use Rattle.fh_model.specs.Pieces.{numbered};
 ghost use Rattle.fh_model.specs.Uploads.{has_gap};
 ghost use Rattle.fh_model.specs.Verdicts.{target_of};
 
+use crate::shared::Shared;
 use content_hash::of_digests;
 use fh_model::{
     BLOCK_BYTES, BlockPiece, BlockPieces, Bytes32, Commit, Copies, FileMeta, Item, Items, NoMemory,
@@ -108,7 +109,7 @@ pub(crate) fn file_of(
 }
 
 /// The id of a file that is written over what stands there.
-pub(crate) fn id_over(item: Option<&Item>, next: u64) -> u64
+pub(crate) fn id_over(item: Option<&Shared<Item>>, next: u64) -> u64
     ensures { result ≡ id_over (target_of (option_copied item.entry)) next }
 {
     match item {
@@ -122,7 +123,7 @@ pub(crate) fn id_over(item: Option<&Item>, next: u64) -> u64
 }
 
 /// The next id behind it.
-pub(crate) fn next_over(item: Option<&Item>, next: u64) -> u64
+pub(crate) fn next_over(item: Option<&Shared<Item>>, next: u64) -> u64
     requires { next < 2 ^ 63 }
     ensures { result ≡ next_over (target_of (option_copied item.entry)) next }
 {

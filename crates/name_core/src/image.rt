@@ -1,4 +1,4 @@
-ghost use Rattle.std.specs.Prelude.{◌≡◌, ◌≤◌, ◌^◌, ℕ, [], IfOk, IsTrue, Ok, Err, Some, IsErrOf, option_copied};
+ghost use Rattle.std.specs.Prelude.{◌≡◌, ◌≤◌, ◌^◌, ℕ, [], IfOk, IsTrue, Ok, Err, Some, IsErrOf, option_copied, length};
 ghost use Rattle.fh_model.specs.declared.changes.Node.TheVariants.{File};
 ghost use Rattle.fh_model.specs.declared.files.FileMeta.{FileMeta};
 ghost use Rattle.fh_model.specs.Files.{has_its_size};
@@ -10,31 +10,30 @@ ghost use Rattle.fh_model.specs.Resolve.{resolve, found, malformed, not_found};
 ghost use Rattle.fh_model.specs.History.{Kept, state_of, next_of, reply_of};
 
 use crate::machine::{Done, Machine};
+use crate::shared::Shared;
 use crate::{LookFault, RowsFault};
 use fh_model::{Cmd, Copies, FileMeta, Found, NoMemory, Reply, Row, Text, copy_all};
 use std::alloc::Global;
 use std::marker::Model;
-use std::sync::Arc;
 
 /// A state of the machine that never changes, with the commands that were applied since it was made by `empty`,
 /// `from_rows` or `forget`. Contracts see the state that it started from and these commands.
 #[derive(Drop)]
 pub struct Image {
-    start: Arc<Machine, Global>,
-    machine: Machine,
-    history: Vec<Cmd>,
+    start: Shared<Machine>,
+    machine: Shared<Machine>,
+    history: Shared<Vec<Shared<Cmd>>>,
 }
 
 impl Model for Image {
-    ghost use Rattle.std.specs.Arc.{arc_value};
     ghost use Rattle.fh_model.specs.History.{Kept};
     ghost use Rattle.name_core.specs.Images.{IsImage};
 
     ghost Value = { Kept };
 
-    ghost view = { λ image. record { start = arc_value image.start; history = image.history.items } };
+    ghost view = { λ image. record { start = image.start; history = image.history.items } };
 
-    ghost invariant = { λ image. IsImage (arc_value image.start) image.history.items image.machine };
+    ghost invariant = { λ image. IsImage image.start image.history.items image.machine };
 }
 
 impl Image {
@@ -44,28 +43,29 @@ impl Image {
         ensures start { IfOk result (λ image. image.start ≡ opening) }
         ensures history { IfOk result (λ image. image.history ≡ []) }
     {
-        let machine = Machine::opening(alloc)?;
-        let start = Arc::new(alloc, machine.copy()?)?;
+        let machine = Shared::new(alloc, Machine::opening(alloc)?)?;
+        let start = machine.copy()?;
+        let history = Shared::new(alloc, Vec::new(alloc))?;
         Ok(Image {
             start,
             machine,
-            history: Vec::new(alloc),
+            history,
         })
     }
 
     /// The state that the rows of a checkpoint stand for, keeping no command. `Bad` comes where a rule is broken.
-    #[tactic(auto, using(fh_model::proofs::KeptFileLaws::rows_keep_files))]
     pub fn from_rows(alloc: Global, rows: &[Row]) -> Result<Image, RowsFault>
         ensures start { IfOk result (λ image. state_of_rows rows.now ≡ Ok image.start) }
         ensures history { IfOk result (λ image. image.history ≡ []) }
         ensures bad { (row : ℕ) → IsErrOf result (RowsFault.Bad row) → state_of_rows rows.now ≡ Err row }
     {
-        let machine = Machine::from_rows(alloc, rows)?;
-        let start = Arc::new(alloc, machine.copy()?)?;
+        let machine = Shared::new(alloc, Machine::from_rows(alloc, rows)?)?;
+        let start = machine.copy()?;
+        let history = Shared::new(alloc, Vec::new(alloc))?;
         Ok(Image {
             start,
             machine,
-            history: Vec::new(alloc),
+            history,
         })
     }
 
@@ -81,20 +81,22 @@ impl Image {
         ensures start { IfOk result (λ image. image.start ≡ state_of self.now) }
         ensures history { IfOk result (λ image. image.history ≡ []) }
     {
-        let alloc = *self.history.allocator();
-        let start = Arc::new(alloc, self.machine.copy()?)?;
+        let alloc = self.machine.alloc();
+        let start = self.machine.copy()?;
+        let machine = self.machine.copy()?;
+        let history = Shared::new(alloc, Vec::new(alloc))?;
         Ok(Image {
             start,
-            machine: self.machine.copy()?,
-            history: Vec::new(alloc),
+            machine,
+            history,
         })
     }
 
-    /// The commands that were applied, the oldest first.
-    pub fn history(&self) -> &[Cmd]
-        ensures { result.now ≡ self.now.history }
+    /// How many commands were applied.
+    pub fn kept(&self) -> usize
+        ensures { result ≡ length self.now.history }
     {
-        &self.history
+        self.history.len()
     }
 
     /// The last moment of the state.
@@ -104,15 +106,14 @@ impl Image {
         self.machine.moment()
     }
 
-    /// An equal image.
+    /// An equal image. Takes no memory, but may be refused where the image has as many copies as can be counted.
     pub fn copy(&self) -> Result<Image, NoMemory>
         ensures { IfOk result (λ copy. copy ≡ self.now) }
     {
-        let history = copy_all(*self.history.allocator(), &self.history)?;
         Ok(Image {
-            start: Arc::try_clone(&self.start)?,
+            start: self.start.copy()?,
             machine: self.machine.copy()?,
-            history,
+            history: self.history.copy()?,
         })
     }
 
@@ -126,17 +127,15 @@ impl Image {
         let Some(machine) = next else {
             return Ok((self.copy()?, reply));
         };
-        let mut history = copy_all(*self.history.allocator(), &self.history)?;
-        history.push(cmd.copy()?)?;
-        let start = Arc::try_clone(&self.start)?;
-        Ok((
-            Image {
-                start,
-                machine,
-                history,
-            },
-            reply,
-        ))
+        let alloc = machine.alloc();
+        let mut history = copy_all(alloc, &self.history)?;
+        history.push(Shared::new(alloc, cmd.copy()?)?)?;
+        let image = Image {
+            start: self.start.copy()?,
+            machine: Shared::new(alloc, machine)?,
+            history: Shared::new(alloc, history)?,
+        };
+        Ok((image, reply))
     }
 
     /// The reply that a command would be given.
@@ -172,6 +171,7 @@ impl Image {
     {
         self.machine.home_of(user)
     }
+
     /// The version of a file with this rev, deleted or not. Takes no memory.
     pub fn meta(&self, rev: u64) -> Option<&FileMeta>
         ensures { option_copied result ≡ meta_of (state_of self.now) rev }

@@ -1,7 +1,7 @@
 //! The machine's image: an immutable state, with the commands that were applied since it was made.
 //!
 //! What an image stands for is the state that it starts from and the list of these commands; its state is their fold
-//! by the step of the machine, never a second truth. The body is the plain one: lists that are copied at each change.
+//! by the step of the machine, never a second truth. The body is a plain one: lists, whose items are shared by the lists that are made of them at each change.
 //! Each namespace keeps the tree that its changes make, so a path is looked up without reading the changes again.
 #![tactic(auto)]
 
@@ -17,6 +17,7 @@ mod nodes;
 mod places;
 mod row_rules;
 mod rows;
+mod shared;
 mod space;
 mod trees;
 mod uploads;

@@ -8,6 +8,7 @@ ghost use Rattle.name_core.specs.Machine.{look_of};
 use crate::LookFault;
 use crate::machine::Machine;
 use crate::places::{is_below_file, path_of};
+use crate::shared::Shared;
 use crate::trees::item_at;
 use fh_model::{Copies, Found, Items, Name, NoMemory, Node, PathArg, Place, Revision, Text};
 
@@ -62,7 +63,7 @@ impl Machine {
     fn look_of_revision(
         &self,
         home: u64,
-        kept: Option<&Revision>,
+        kept: Option<&Shared<Revision>>,
     ) -> Result<Option<Found>, NoMemory>
         ensures { IfOk result (λ there. look_of there ≡ look_of_revision self.now home (option_copied kept.entry)) }
     {

@@ -15,12 +15,13 @@ use crate::nodes::kind_tag;
 use crate::places::{is_below_file, path_of};
 use crate::row_rules::{counters_in, first_bad};
 use crate::rows::{put_namespaces, put_users, spaces_in, users_in};
+use crate::shared::Shared;
 use crate::space::Space;
 use crate::trees::item_at;
 use crate::writing::{folders, missed_above, shown_in};
 use fh_model::{
-    Act, Change, Cmd, Copies, Entry, FileMeta, Item, Items, Name, Names, Namespace, Next, NoMemory,
-    Refusal, Reply, Revision, Row, SPENT_AT, Session, Tags, Text, User, copy_all,
+    Act, Change, Cmd, Copies, Entry, FileMeta, Item, Items, Name, Names, Next, NoMemory, Refusal,
+    Reply, Revision, Row, SPENT_AT, Session, Tags, Text, User, copy_all,
 };
 use std::alloc::Global;
 use std::marker::Model;
@@ -28,10 +29,10 @@ use std::marker::Model;
 /// A state of the machine.
 #[derive(Debug, Drop)]
 pub(crate) struct Machine {
-    pub(crate) users: Vec<User>,
-    pub(crate) namespaces: Vec<Space>,
-    pub(crate) revisions: Vec<Revision>,
-    pub(crate) sessions: Vec<Session>,
+    pub(crate) users: Vec<Shared<User>>,
+    pub(crate) namespaces: Vec<Shared<Space>>,
+    pub(crate) revisions: Vec<Shared<Revision>>,
+    pub(crate) sessions: Vec<Shared<Session>>,
     pub(crate) next: Next,
     pub(crate) moment: u64,
 }
@@ -62,20 +63,15 @@ impl Machine {
         ensures { IfOk result (λ machine. machine ≡ opening) }
     {
         let mut users = Vec::new(alloc);
-        users.push(User {
+        let admin = User {
             number: 1,
             home: 1,
             token: None,
-        })?;
-        let mut namespaces = Vec::new(alloc);
-        let home = Namespace {
-            number: 1,
-            shared: false,
-            floor: 0,
-            changes: Items::empty(alloc),
-            members: Items::empty(alloc),
         };
-        namespaces.push(Space::new(alloc, home)?)?;
+        users.push(Shared::new(alloc, admin)?)?;
+        let mut namespaces = Vec::new(alloc);
+        let home = Space::new(alloc, 1, false, 0, Items::empty(alloc))?;
+        namespaces.push(Shared::new(alloc, home)?)?;
         Ok(Machine {
             users,
             namespaces,
@@ -161,7 +157,7 @@ impl Machine {
         *self.users.allocator()
     }
 
-    pub(crate) fn user(&self, number: u64) -> Option<&User>
+    pub(crate) fn user(&self, number: u64) -> Option<&Shared<User>>
         ensures { option_copied result ≡ user_of self.now number }
     {
         self.users.iter().find(|user| user.number == number)
@@ -177,7 +173,7 @@ impl Machine {
         }
     }
 
-    fn user_with(&self, token: &[u8]) -> Option<&User>
+    fn user_with(&self, token: &[u8]) -> Option<&Shared<User>>
         ensures { option_copied result ≡ find (has_token token.now) self.now.users }
     {
         self.users.iter().find(|user| has_token(user, token))
@@ -194,7 +190,7 @@ impl Machine {
     }
 
     /// The version with this rev.
-    pub(crate) fn revision(&self, rev: u64) -> Option<&Revision>
+    pub(crate) fn revision(&self, rev: u64) -> Option<&Shared<Revision>>
         ensures { option_copied result ≡ revision_of self.now rev }
     {
         self.revisions.iter().find(|kept| kept.file.rev == rev)
@@ -209,16 +205,16 @@ impl Machine {
         }
     }
 
-    fn space(&self, number: u64) -> Option<&Space>
+    fn space(&self, number: u64) -> Option<&Shared<Space>>
         ensures { option_copied result ≡ find (λ space. space.number == number) self.now.namespaces }
     {
         self.namespaces
             .iter()
-            .find(|space| space.namespace().number == number)
+            .find(|space| space.number() == number)
     }
 
     /// The tree of a namespace, empty where there is no such one.
-    pub(crate) fn tree(&self, number: u64) -> &[Item]
+    pub(crate) fn tree(&self, number: u64) -> &[Shared<Item>]
         ensures { result.now ≡ tree_in self.now number }
     {
         match self.space(number) {
@@ -411,7 +407,7 @@ fn next_is_spent(next: &Next) -> bool
             || (SPENT_AT <= next.session || (SPENT_AT <= next.user || SPENT_AT <= next.namespace)))
 }
 
-fn any_is_spent(spaces: &[Space]) -> bool
+fn any_is_spent(spaces: &[Shared<Space>]) -> bool
     ensures { result ≡ list_any space_is_spent spaces.now }
 {
     spaces.iter().any(|space| space.is_spent())
@@ -420,7 +416,7 @@ fn any_is_spent(spaces: &[Space]) -> bool
 /// The number of pieces of a session at which it is spent.
 const PIECES_SPENT_AT: usize = 1 << 31;
 
-fn any_session_is_spent(sessions: &[Session]) -> bool
+fn any_session_is_spent(sessions: &[Shared<Session>]) -> bool
     ensures { result ≡ list_any session_is_spent sessions.now }
 {
     sessions.iter().any(|session| PIECES_SPENT_AT <= session.pieces.as_slice().len())
@@ -435,18 +431,33 @@ fn has_token(user: &User, token: &[u8]) -> bool
     }
 }
 
+/// The namespace, with more changes where it has this number.
+fn grow(
+    alloc: Global,
+    space: &Shared<Space>,
+    number: u64,
+    changes: &[Shared<Change>],
+) -> Result<Shared<Space>, NoMemory>
+    ensures { IfOk result (λ space_new. space_new ≡ grown number changes.now space.now) }
+{
+    if space.number() != number {
+        return space.copy();
+    }
+    Shared::new(alloc, space.grown(changes)?)
+}
+
 /// The namespaces, where the one with this number has more changes.
 pub(crate) fn grow_all(
     alloc: Global,
-    spaces: &[Space],
+    spaces: &[Shared<Space>],
     number: u64,
-    changes: &[Change],
-) -> Result<Vec<Space>, NoMemory>
+    changes: &[Shared<Change>],
+) -> Result<Vec<Shared<Space>>, NoMemory>
     ensures { IfOk result (λ spaces_new. spaces_new.items ≡ map (grown number changes.now) spaces.now) }
 {
     let mut grown = Vec::new(alloc);
     for space in spaces {
-        grown.push(space.grown(number, changes)?)?;
+        grown.push(grow(alloc, space, number, changes)?)?;
     }
     Ok(grown)
 }

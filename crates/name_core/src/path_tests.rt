@@ -156,7 +156,7 @@ fn look_at_all(rt: HostRuntime, image: &Image) -> Result<(), Fail> {
 #[test]
 fn paths_lead_to_one_place_however_they_are_cased(rt: HostRuntime) -> Result<(), Fail> {
     let image = made(rt)?;
-    assert!(rt; image.history().len() == 6);
+    assert!(rt; image.kept() == 6);
     look_at_all(rt, &image)
 }
 

@@ -8,6 +8,7 @@ ghost use Rattle.fh_model.specs.Places.{view_of, seen_from, names_in_view, mount
 use crate::keys::is_under;
 use crate::machine::Machine;
 use crate::nodes::{id_of, is_file, mounted_at, mounts};
+use crate::shared::Shared;
 use fh_model::{Copies, Item, Items, Name, Names, NoMemory, Node, PathArg, Place, Text, copy_all};
 use fold_path::{PathFault, parse};
 use std::alloc::Global;
@@ -50,7 +51,7 @@ fn names_behind(names: &[Name], count: usize) -> &[Name]
 }
 
 /// The mount point at a proper prefix of the names.
-fn mount_above<'a>(tree: &'a [Item], names: &[Name]) -> Option<&'a Item>
+fn mount_above<'a>(tree: &'a [Shared<Item>], names: &[Name]) -> Option<&'a Shared<Item>>
     ensures { option_copied result ≡ mount_above tree.now names.now }
 {
     tree.iter().find(|item| {
@@ -59,19 +60,19 @@ fn mount_above<'a>(tree: &'a [Item], names: &[Name]) -> Option<&'a Item>
 }
 
 /// Whether a proper prefix of the names is a file.
-pub(crate) fn is_below_file(tree: &[Item], names: &[Name]) -> bool
+pub(crate) fn is_below_file(tree: &[Shared<Item>], names: &[Name]) -> bool
     ensures { result ≡ is_below_file tree.now names.now }
 {
     tree.iter().any(|item| is_file(&item.node) && is_under(names, item.names.as_slice()))
 }
 
-fn item_with_id(tree: &[Item], id: u64) -> Option<&Item>
+fn item_with_id(tree: &[Shared<Item>], id: u64) -> Option<&Shared<Item>>
     ensures { option_copied result ≡ find (λ item. id_of item.node == id) tree.now }
 {
     tree.iter().find(|item| id_of(&item.node) == id)
 }
 
-fn mount_of(tree: &[Item], number: u64) -> Option<&Item>
+fn mount_of(tree: &[Shared<Item>], number: u64) -> Option<&Shared<Item>>
     ensures { option_copied result ≡ find (λ item. mounts number item.node) tree.now }
 {
     tree.iter().find(|item| mounts(number, &item.node))

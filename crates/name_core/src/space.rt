@@ -1,9 +1,11 @@
-ghost use Rattle.std.specs.Prelude.{◌≡◌, ◌+◌, ◌^◌, ◌≤◌, ◌++◌, [], IfOk, length};
-ghost use Rattle.fh_model.specs.State.{grown, space_is_spent};
+ghost use Rattle.std.specs.Prelude.{◌≡◌, ◌<◌, ◌^◌, ◌++◌, [], IfOk};
+ghost use Rattle.fh_model.specs.Rows.{namespace_row};
+ghost use Rattle.fh_model.specs.State.{length_of, space_is_spent};
 ghost use Rattle.fh_model.specs.Trees.{tree_of};
 
+use crate::shared::Shared;
 use crate::trees::tree_after;
-use fh_model::{Change, Copies, Item, Namespace, NoMemory, SPENT_AT, copy_all};
+use fh_model::{Change, Copies, Item, Members, NoMemory, Row, SPENT_AT, copy_all};
 use std::alloc::Global;
 use std::marker::Model;
 
@@ -13,38 +15,55 @@ const MEMBERS_SPENT_AT: usize = 1 << 31;
 /// A namespace beside the tree that its changes make. Contracts see the namespace.
 #[derive(Debug, Drop)]
 pub(crate) struct Space {
-    namespace: Namespace,
-    tree: Vec<Item>,
+    number: u64,
+    shared: bool,
+    floor: u64,
+    changes: Vec<Shared<Change>>,
+    members: Shared<Members>,
+    tree: Vec<Shared<Item>>,
 }
 
 impl Model for Space {
-    ghost use Rattle.std.specs.Prelude.{◌≡◌};
+    ghost use Rattle.std.specs.Prelude.{◌≡◌, []};
     ghost use Rattle.fh_model.specs.declared.state.Namespace.{Namespace};
-    ghost use Rattle.fh_model.specs.Trees.{tree_of};
+    ghost use Rattle.fh_model.specs.Trees.{tree_after};
 
     ghost Value = { Namespace };
 
-    ghost view = { λ space. space.namespace };
+    ghost view = { λ space. record { number = space.number; shared = space.shared; floor = space.floor; changes = space.changes.items; members = space.members } };
 
-    ghost invariant = { λ space. space.tree.items ≡ tree_of space.namespace };
+    ghost invariant = { λ space. space.tree.items ≡ tree_after [] space.changes.items };
 }
 
 impl Space {
-    pub(crate) fn new(alloc: Global, namespace: Namespace) -> Result<Space, NoMemory>
-        ensures { IfOk result (λ space. space ≡ namespace) }
+    /// The namespace without changes.
+    pub(crate) fn new(
+        alloc: Global,
+        number: u64,
+        shared: bool,
+        floor: u64,
+        members: Members,
+    ) -> Result<Space, NoMemory>
+        ensures { IfOk result (λ space. space ≡ record { number = number; shared = shared; floor = floor; changes = []; members = members }) }
     {
-        let tree = tree_after(alloc, &[], namespace.changes.as_slice())?;
-        Ok(Space { namespace, tree })
+        Ok(Space {
+            number,
+            shared,
+            floor,
+            changes: Vec::new(alloc),
+            members: Shared::new(alloc, members)?,
+            tree: Vec::new(alloc),
+        })
     }
 
-    pub(crate) fn namespace(&self) -> &Namespace
-        ensures { result.now ≡ self.now }
+    pub(crate) fn number(&self) -> u64
+        ensures { result ≡ self.now.number }
     {
-        &self.namespace
+        self.number
     }
 
     /// What stands in it, in the order of keys.
-    pub(crate) fn tree(&self) -> &[Item]
+    pub(crate) fn tree(&self) -> &[Shared<Item>]
         ensures { result.now ≡ tree_of self.now }
     {
         &self.tree
@@ -53,31 +72,41 @@ impl Space {
     pub(crate) fn is_spent(&self) -> bool
         ensures { result ≡ space_is_spent self.now }
     {
-        let changes = self.namespace.changes.as_slice();
-        let length = (self.namespace.floor as u128) + (changes.len() as u128);
-        (SPENT_AT as u128) <= length || MEMBERS_SPENT_AT <= self.namespace.members.as_slice().len()
+        let length = (self.floor as u128) + (self.changes.len() as u128);
+        (SPENT_AT as u128) <= length || MEMBERS_SPENT_AT <= self.members.as_slice().len()
     }
 
-    /// The namespace with more changes, where it has this number, and else the same.
-    pub(crate) fn grown(&self, number: u64, changes: &[Change]) -> Result<Space, NoMemory>
-        ensures { IfOk result (λ space. space ≡ grown number changes.now self.now) }
+    /// Its row, without its changes.
+    pub(crate) fn row(&self) -> Result<Row, NoMemory>
+        requires { length_of self.now < 2 ^ 64 }
+        ensures { IfOk result (λ row. row ≡ namespace_row self.now) }
     {
-        if self.namespace.number != number {
-            return self.copy();
-        }
-        let mut namespace = self.namespace.copy()?;
-        for change in changes {
-            namespace.changes.push(change.copy()?)?;
-        }
-        let tree = tree_after(*self.tree.allocator(), &self.tree, changes)?;
-        Ok(Space { namespace, tree })
+        let members = (*self.members).copy()?;
+        Ok(Row::Namespace {
+            number: self.number,
+            shared: self.shared,
+            floor: self.floor,
+            length: self.floor + self.changes.len() as u64,
+            members,
+        })
     }
-}
 
-impl Copies for Space {
-    fn copy(&self) -> Result<Space, NoMemory> {
-        let namespace = self.namespace.copy()?;
-        let tree = copy_all(*self.tree.allocator(), &self.tree)?;
-        Ok(Space { namespace, tree })
+    /// The namespace with more changes.
+    pub(crate) fn grown(&self, changes: &[Shared<Change>]) -> Result<Space, NoMemory>
+        ensures { IfOk result (λ space. space ≡ record self.now { changes = self.now.changes ++ changes.now }) }
+    {
+        let alloc = *self.changes.allocator();
+        let mut all = copy_all(alloc, &self.changes)?;
+        for change in changes {
+            all.push(change.copy()?)?;
+        }
+        Ok(Space {
+            number: self.number,
+            shared: self.shared,
+            floor: self.floor,
+            changes: all,
+            members: self.members.copy()?,
+            tree: tree_after(alloc, &self.tree, changes)?,
+        })
     }
 }

@@ -127,7 +127,7 @@ fn the_rows_of_a_new_store_are_read_back(rt: HostRuntime) -> Result<(), Fail> {
     let rows = Image::empty(alloc)?.rows()?;
     assert!(rt; rows.len() == 3);
     let image = Image::from_rows(alloc, &rows)?;
-    assert!(rt; image.history().is_empty() && image.moment() == 0);
+    assert!(rt; image.kept() == 0 && image.moment() == 0);
     let path = Text::new(String::from_str(alloc, "/Docs")?);
     let act = Act::MakeFolder {
         user: 1,
@@ -141,9 +141,9 @@ fn the_rows_of_a_new_store_are_read_back(rt: HostRuntime) -> Result<(), Fail> {
     };
     let (next, reply) = image.apply(&cmd)?;
     assert!(rt; matches!(&reply, Reply::Entry(_)));
-    assert!(rt; next.history().len() == 1 && next.moment() == 7);
+    assert!(rt; next.kept() == 1 && next.moment() == 7);
     assert!(rt; matches!(&next.settle(&cmd)?, Reply::Refused(_)));
-    assert!(rt; next.copy()?.forget()?.history().is_empty());
+    assert!(rt; next.copy()?.forget()?.kept() == 0);
     Ok(())
 }
 

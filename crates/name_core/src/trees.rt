@@ -4,11 +4,12 @@ ghost use Rattle.fh_model.specs.Keys.{key_of};
 ghost use Rattle.fh_model.specs.Trees.{item_at, before, behind, with_node, without, changed, tree_after};
 
 use crate::keys::{compare, has_key, is_under};
+use crate::shared::Shared;
 use fh_model::{Change, Copies, Item, Name, Names, NoMemory, Node, copy_all};
 use std::alloc::Global;
 
 /// What stands at the key of the names.
-pub(crate) fn item_at<'a>(tree: &'a [Item], names: &[Name]) -> Option<&'a Item>
+pub(crate) fn item_at<'a>(tree: &'a [Shared<Item>], names: &[Name]) -> Option<&'a Shared<Item>>
     ensures { option_copied result ≡ item_at tree.now (key_of names.now) }
 {
     tree.iter()
@@ -16,7 +17,11 @@ pub(crate) fn item_at<'a>(tree: &'a [Item], names: &[Name]) -> Option<&'a Item>
 }
 
 /// Puts a copy of each item before the key of the names at the end of the list.
-fn put_before(items: &mut Vec<Item>, tree: &[Item], names: &[Name]) -> Result<(), NoMemory>
+fn put_before(
+    items: &mut Vec<Shared<Item>>,
+    tree: &[Shared<Item>],
+    names: &[Name],
+) -> Result<(), NoMemory>
     ensures { OnOk result (items.new.items ≡ items.old.items ++ before (key_of names.now) tree.now) }
 {
     for item in tree {
@@ -28,7 +33,11 @@ fn put_before(items: &mut Vec<Item>, tree: &[Item], names: &[Name]) -> Result<()
 }
 
 /// Puts a copy of each item behind the key of the names at the end of the list.
-fn put_behind(items: &mut Vec<Item>, tree: &[Item], names: &[Name]) -> Result<(), NoMemory>
+fn put_behind(
+    items: &mut Vec<Shared<Item>>,
+    tree: &[Shared<Item>],
+    names: &[Name],
+) -> Result<(), NoMemory>
     ensures { OnOk result (items.new.items ≡ items.old.items ++ behind (key_of names.now) tree.now) }
 {
     for item in tree {
@@ -42,10 +51,10 @@ fn put_behind(items: &mut Vec<Item>, tree: &[Item], names: &[Name]) -> Result<()
 /// The tree with the node at the names, in the place of what stood there.
 fn with_node(
     alloc: Global,
-    tree: &[Item],
+    tree: &[Shared<Item>],
     names: &Names,
     node: &Node,
-) -> Result<Vec<Item>, NoMemory>
+) -> Result<Vec<Shared<Item>>, NoMemory>
     ensures { IfOk result (λ items. items.items ≡ with_node names.now node.now tree.now) }
 {
     let mut items = Vec::new(alloc);
@@ -54,13 +63,17 @@ fn with_node(
         names: names.copy()?,
         node: node.copy()?,
     };
-    items.push(item)?;
+    items.push(Shared::new(alloc, item)?)?;
     put_behind(&mut items, tree, names.as_slice())?;
     Ok(items)
 }
 
 /// The tree with nothing at the names or under them.
-fn without(alloc: Global, tree: &[Item], names: &[Name]) -> Result<Vec<Item>, NoMemory>
+fn without(
+    alloc: Global,
+    tree: &[Shared<Item>],
+    names: &[Name],
+) -> Result<Vec<Shared<Item>>, NoMemory>
     ensures { IfOk result (λ items. items.items ≡ without (key_of names.now) tree.now) }
 {
     let mut items = Vec::new(alloc);
@@ -73,7 +86,11 @@ fn without(alloc: Global, tree: &[Item], names: &[Name]) -> Result<Vec<Item>, No
     Ok(items)
 }
 
-fn changed(alloc: Global, change: &Change, tree: &[Item]) -> Result<Vec<Item>, NoMemory>
+fn changed(
+    alloc: Global,
+    change: &Change,
+    tree: &[Shared<Item>],
+) -> Result<Vec<Shared<Item>>, NoMemory>
     ensures { IfOk result (λ items. items.items ≡ changed change.now tree.now) }
 {
     match change {
@@ -92,9 +109,9 @@ fn changed(alloc: Global, change: &Change, tree: &[Item]) -> Result<Vec<Item>, N
 /// The tree after the changes.
 pub(crate) fn tree_after(
     alloc: Global,
-    tree: &[Item],
-    changes: &[Change],
-) -> Result<Vec<Item>, NoMemory>
+    tree: &[Shared<Item>],
+    changes: &[Shared<Change>],
+) -> Result<Vec<Shared<Item>>, NoMemory>
     ensures { IfOk result (λ items. items.items ≡ tree_after tree.now changes.now) }
 {
     let mut items = copy_all(alloc, tree)?;

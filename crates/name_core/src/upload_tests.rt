@@ -144,7 +144,7 @@ fn is_version(there: &Found, rev: u64, size: u64) -> bool {
 #[test]
 fn uploads_are_judged_and_each_version_is_kept(rt: HostRuntime) -> Result<(), Fail> {
     let image = uploaded(rt)?;
-    assert!(rt; image.history().len() == 15);
+    assert!(rt; image.kept() == 15);
     for (rev, size) in [
         (1, Some(5)),
         (2, Some(6)),
@@ -169,7 +169,7 @@ fn uploads_are_judged_and_each_version_is_kept(rt: HostRuntime) -> Result<(), Fa
 fn data_that_is_no_file_changes_nothing(rt: HostRuntime) -> Result<(), Fail> {
     let image = Image::empty(rt.alloc())?;
     let (next, reply) = image.apply(&upload(rt, 1, Sketch::Add("/a", 1), 1)?)?;
-    assert!(rt; replied(rt, &reply)?.as_str() == "draft_gap." && next.history().is_empty());
+    assert!(rt; replied(rt, &reply)?.as_str() == "draft_gap." && next.kept() == 0);
     let reply = image.settle(&upload(rt, 2, Sketch::Add("/a", 0), 0)?)?;
     assert!(rt; replied(rt, &reply)?.as_str() == "user.not_found.");
     Ok(())

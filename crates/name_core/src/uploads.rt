@@ -9,6 +9,7 @@ ghost use Rattle.name_core.specs.Machine.{Does};
 use crate::commits::Committed;
 use crate::files::{has_gap, numbered, pieces_of, size_of};
 use crate::machine::{Done, Machine};
+use crate::shared::Shared;
 use fh_model::{
     Commit, Next, NoMemory, Piece, Pieces, Refusal, Reply, Session, Tags, User, copy_all,
 };
@@ -44,7 +45,8 @@ impl Machine {
     {
         let alloc = self.alloc();
         let mut sessions = copy_all(alloc, &self.sessions)?;
-        sessions.push(self.session_of(user, moment, pieces)?)?;
+        let session = self.session_of(user, moment, pieces)?;
+        sessions.push(Shared::new(alloc, session)?)?;
         let next = Machine {
             users: copy_all(alloc, &self.users)?,
             namespaces: copy_all(alloc, &self.namespaces)?,

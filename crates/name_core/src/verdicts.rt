@@ -2,6 +2,7 @@
 ghost use Rattle.std.specs.Prelude.{◌≡◌, option_copied};
 ghost use Rattle.fh_model.specs.Verdicts.{is_identical, on_absent, on_other, target_of, verdict};
 
+use crate::shared::Shared;
 use fh_model::{Bytes32, Commit, FileMeta, Item, Kind, Mode, Node, Verdict};
 
 fn is_identical(meta: &FileMeta, size: u64, hash: &Bytes32) -> bool
@@ -43,7 +44,12 @@ fn on_other(mode: &Mode, meta: &FileMeta) -> Verdict
 }
 
 /// What becomes of a commit of such data over what stands at its place.
-pub(crate) fn verdict(item: Option<&Item>, commit: &Commit, size: u64, hash: &Bytes32) -> Verdict
+pub(crate) fn verdict(
+    item: Option<&Shared<Item>>,
+    commit: &Commit,
+    size: u64,
+    hash: &Bytes32,
+) -> Verdict
     ensures { result ≡ verdict (target_of (option_copied item.entry)) commit.now.mode commit.now.strict size hash.now }
 {
     let Some(item) = item else {

@@ -6,6 +6,7 @@ ghost use Rattle.fh_model.specs.Trees.{item_at};
 ghost use Rattle.fh_model.specs.WritePlaces.{write_place, name_at, shown_in, missed_above};
 
 use crate::machine::Machine;
+use crate::shared::Shared;
 use crate::trees::item_at;
 use fh_model::{
     Change, Copies, Item, Items, Name, Names, NoMemory, Node, PathArg, Place, copy_all,
@@ -13,7 +14,7 @@ use fh_model::{
 use std::alloc::Global;
 
 /// The name, or the last name of the item that stands there.
-fn name_at(item: Option<&Item>, name: &Name) -> Result<Name, NoMemory>
+fn name_at(item: Option<&Shared<Item>>, name: &Name) -> Result<Name, NoMemory>
     ensures { IfOk result (λ shown. shown ≡ name_at (option_copied item.entry) name.now) }
 {
     match item {
@@ -23,7 +24,11 @@ fn name_at(item: Option<&Item>, name: &Name) -> Result<Name, NoMemory>
 }
 
 /// The names, each as the tree shows it where the tree holds it.
-pub(crate) fn shown_in(alloc: Global, tree: &[Item], names: &[Name]) -> Result<Names, NoMemory>
+pub(crate) fn shown_in(
+    alloc: Global,
+    tree: &[Shared<Item>],
+    names: &[Name],
+) -> Result<Names, NoMemory>
     ensures { IfOk result (λ shown. shown ≡ shown_in tree.now names.now) }
 {
     let mut shown = Vec::new(alloc);
@@ -34,7 +39,11 @@ pub(crate) fn shown_in(alloc: Global, tree: &[Item], names: &[Name]) -> Result<N
     Ok(Items::new(shown))
 }
 
-fn put_if_missed(missed: &mut Vec<Names>, tree: &[Item], prefix: &[Name]) -> Result<(), NoMemory>
+fn put_if_missed(
+    missed: &mut Vec<Names>,
+    tree: &[Shared<Item>],
+    prefix: &[Name],
+) -> Result<(), NoMemory>
     ensures { OnOk result (missed.new.items ≡ missed.old.items ++ (if is_none (item_at tree.now (key_of prefix.now)) then prefix.now ∷ [] else [])) }
 {
     if item_at(tree, prefix).is_none() {
@@ -47,7 +56,7 @@ fn put_if_missed(missed: &mut Vec<Names>, tree: &[Item], prefix: &[Name]) -> Res
 /// The proper prefixes of the names at which the tree holds nothing, from the top.
 pub(crate) fn missed_above(
     alloc: Global,
-    tree: &[Item],
+    tree: &[Shared<Item>],
     names: &[Name],
 ) -> Result<Vec<Names>, NoMemory>
     ensures { IfOk result (λ missed. missed.items ≡ missed_above tree.now names.now) }
@@ -60,7 +69,11 @@ pub(crate) fn missed_above(
 }
 
 /// A folder at each of the places, with the ids from this one on.
-pub(crate) fn folders(alloc: Global, id: u64, places: &[Names]) -> Result<Vec<Change>, NoMemory>
+pub(crate) fn folders(
+    alloc: Global,
+    id: u64,
+    places: &[Names],
+) -> Result<Vec<Shared<Change>>, NoMemory>
     requires { id + length places.now ≤ 2 ^ 63 }
     ensures { IfOk result (λ changes. changes.items ≡ folders id places.now) }
 {
@@ -68,10 +81,11 @@ pub(crate) fn folders(alloc: Global, id: u64, places: &[Names]) -> Result<Vec<Ch
     let mut next = id;
     for names in places {
         let names = names.copy()?;
-        changes.push(Change::Put {
+        let change = Change::Put {
             names,
             node: Node::Folder { id: next },
-        })?;
+        };
+        changes.push(Shared::new(alloc, change)?)?;
         next += 1;
     }
     Ok(changes)

@@ -16,6 +16,7 @@ use Rattle.fh_model.specs.State.{State}
 use Rattle.fh_model.specs.Step.{step}
 use Rattle.fh_model.proofs.Runs.{with_nothing, state_more, reply_more, next_more}
 use Rattle.host_seat.specs.Port.{Commits, Looks, OthersEnter, OfBoth, KeepsPieces, PutsData, Leaves, placed_at}
+use Rattle.host_seat.proofs.PortLaws.{both_map, keeps_same}
 use Rattle.api_types.specs.declared.answer.Answer.{Answer}
 use Rattle.api_types.specs.declared.answer.Answer.TheVariants.{Plain}
 use Rattle.session_rules.specs.Connection.{cmd_of, cmd_with, entered_by, put_by}
@@ -49,27 +50,11 @@ calls_missed alone admin old new method target token h = record { others = h.oth
 
 -- ---- what becomes of the block file
 
--- a fact of a block file and itself
-same_both : (P : List ℕ → List ℕ → Type 0) (x : Option (List ℕ)) → ((blocks : List ℕ) → P blocks blocks) → OfBoth P x x
-same_both P None is = tt
-same_both P (Some blocks) is = is blocks
-
--- a fact that follows from two others
-pub both_from : (P Q R : List ℕ → List ℕ → Type 0) (x y : Option (List ℕ)) → ((b c : List ℕ) → P b c → Q b c → R b c) → OfBoth P x y → OfBoth Q x y → OfBoth R x y
-both_from P Q R None None is p q = tt
-both_from P Q R (Some b) (Some c) is p q = is b c p q
-both_from P Q R None (Some c) is p q = p
-both_from P Q R (Some b) None is p q = p
-
--- it stayed as it was
-pub keeps_same : (s : State) (x y : Option (List ℕ)) → y ≡ x → KeepsPieces s x y
-keeps_same s x y same = subst (λ (o : Option (List ℕ)). KeepsPieces s x o) (sym same) (same_both (λ before after. SamePieces s after before) x (λ blocks. refl))
-
--- its pieces did, and nothing entered
+-- its pieces stayed as they were, and nothing entered
 still : (s : State) (x y : Option (List ℕ)) → KeepsPieces s x y → OfBoth (λ before after. end_in s ≤ length before → SamePieces s after before) x y
 still s x y keeps =
-    both_from (λ before after. SamePieces s after before) (λ before after. SamePieces s after before) (λ before after. end_in s ≤ length before → SamePieces s after before)
-    x y (λ b c p q _. p) keeps keeps
+    both_map (λ before after. SamePieces s after before) (λ before after. end_in s ≤ length before → SamePieces s after before) x y
+    (λ before after same _. same) keeps
 
 put_both : (seat at : ℕ) (s : State) (act : Act) (bytes : List ℕ) (x y : Option (List ℕ)) → PutsData s (cmd_of seat at act) bytes x y → KeepsPieces s x y
     → OfBoth (λ before after. end_in s ≤ length before

@@ -1,5 +1,5 @@
 -- A head and its body, as calls of the reader gave them, are one request.
-use Rattle.std.proofs.Common.{◌≡◌, ℕ, ◌≤◌, List, [], ◌++◌, Option, refl, sym, ◌∙◌, ap, subst, append_assoc, inl, inr, option_map}
+use Rattle.std.proofs.Common.{◌≡◌, ℕ, ◌≤◌, Bool, List, [], ◌++◌, Option, refl, sym, ◌∙◌, ap, subst, append_assoc, inl, inr, option_map}
 use Rattle.httparse.specs.Grammar.{RequestHead}
 use Rattle.std.specs.Io.KnownBytes.{IsAtEnd, append_known, prepend_known}
 use Rattle.fh_world.specs.Causes.{Rose}
@@ -19,9 +19,10 @@ use Rattle.session_rules.specs.Connection.{interim_of}
 use Rattle.session_rules.specs.Decisions.{Called}
 use Rattle.session_rules.specs.Replies.{bad_request, body_too_large}
 use Rattle.session_http.specs.Begun.{IsRefused}
-use Rattle.session_http.specs.Bodies.{Holds}
+use Rattle.session_http.specs.Bodies.{GoneOnlyFor, Holds}
 use Rattle.session_http.specs.declared.bodies.Body.{Body}
-use Rattle.session_http.specs.Steps.{Hears, IsKnown, Opens, Passes, Stops}
+use Rattle.session_http.specs.Points.{is_called}
+use Rattle.session_http.specs.Steps.{Hears, HearsAll, IsKnown, Opens, Passes, Stops}
 use Rattle.session_http.specs.Talk.{Terms, Moment}
 use Rattle.session_http.specs.declared.conn.ConnEnd.TheVariants.{Cut, ReadFault, NoMemory}
 use Rattle.session_http.proofs.Ones.{at_most_to}
@@ -115,6 +116,12 @@ module _ (t : Terms) (old mid new : Moment) (call : Option Called) (head : Head)
     argued = arg_same opens.asked head opens.is;
     holds = holds;
   }
+
+  pub hears_all : (keeps : Bool) (room : ℕ) (body : Body) (kept : List ℕ) → Holds body kept content → GoneOnlyFor keeps room body content → keeps ≡ is_called call
+      → BodyFrom place (mid.unread ++ fresh) added (done new.unread) → HearsAll t old new call head.last (option_map (λ v. v.items) head.arg) body kept room
+  unfolding hears
+  hears_all keeps room body kept holds gone is came =
+      record { hears = hears body kept holds came; gone = subst (λ (b : Bool). GoneOnlyFor b room body content) is gone }
 
   pub stops_cut : BodyFrom place (mid.unread ++ fresh) added cut → IsAtEnd new.left → Stops t old new Cut
   stops_cut body at_end = record {

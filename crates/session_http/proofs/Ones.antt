@@ -1,8 +1,9 @@
 -- One request from its reading to its reply: what was heard, what the port did, and what was written make its turn.
-use Rattle.std.proofs.Common.{◌≡◌, ℕ, suc, ◌+◌, ◌<◌, ◌≤◌, List, [], ◌∷◌, ◌++◌, Option, None, Some, Bool, IsTrue, length, take, refl, sym, ◌∙◌, ap, subst, append_assoc, arith, inl, inr}
+use Rattle.std.proofs.Common.{◌≡◌, ◌≢◌, ℕ, ◌+◌, ◌<◌, ◌≤◌, List, [], ◌∷◌, ◌++◌, Option, None, Some, Bool, IsTrue, length, refl, sym, ◌∙◌, ap, subst, append_assoc, arith, inl, inr}
 use Rattle.std.specs.Io.KnownBytes.{append_known, prepend_known}
 use Rattle.fh_world.specs.Causes.{Rose}
 use Rattle.fh_model.specs.declared.commands.Cmd.{Cmd}
+use Rattle.fh_model.specs.declared.files.FileMeta.{FileMeta}
 use Rattle.fh_model.specs.History.{with_more}
 use Rattle.host_seat.specs.Port.{Leaves, OfBoth}
 use Rattle.http_in.specs.Bodies.{done}
@@ -10,13 +11,14 @@ use Rattle.http_in.specs.Requests.{Request, BeginsWithBody}
 use Rattle.session_rules.specs.Connection.{Turn, broken_off, closes, interim_of, said, text_in, gained_in, IsStored, Sends}
 use Rattle.session_rules.specs.Decisions.{Called}
 use Rattle.session_rules.specs.Replies.{text_of}
-use Rattle.session_http.specs.Ends.{EndsBy, IsBrokenOff, IsPart, Served}
+use Rattle.session_http.specs.Ends.{AsksBehind, EndsBy, IsBrokenOff, IsPart, Served}
 use Rattle.session_http.specs.Sending.{IsCause}
 use Rattle.session_http.specs.Steps.{Hears, Turned}
 use Rattle.session_http.specs.Talk.{Terms, Moment, IsTurn, IsWhole, Stored, desk, first, replies_behind}
 use Rattle.session_http.specs.declared.bodies.Body.{Body}
 use Rattle.session_http.specs.declared.conn.ConnEnd.{ConnEnd}
 use Rattle.session_http.specs.declared.conn.ConnEnd.TheVariants.{Ended, Cut, Bad, ReadFault, WriteFault, DiskFault, NoMemory, Spent}
+use Rattle.session_http.proofs.Sends.{part_behind}
 use Rattle.session_http.proofs.Serves.{text_behind, turned, serve_broken}
 use Rattle.session_http.proofs.Talks.{at_most, rose_since}
 
@@ -46,20 +48,6 @@ rose_from a b c e h = omega (arith, e, h)
 
 pub at_most_to : (a b c : ℕ) → a ≤ b → c ≡ b → a ≤ c
 at_most_to a b c h e = omega (arith, h, e)
-
-zero_on : (n : ℕ) → n ≡ 0 + n
-zero_on n = omega arith
-
-suc_on : (k n : ℕ) → suc (k + n) ≡ suc k + n
-suc_on k n = omega arith
-
-part_on : (a b : List ℕ) (n : ℕ) → a ++ take n b ≡ take (length a + n) (a ++ b)
-part_on [] b n = ap (λ k. take k b) (zero_on n)
-part_on (x ∷ a) b n = ap (λ (l : List ℕ). x ∷ l) (part_on a b n) ∙ ap (λ k. take k (x ∷ (a ++ b))) (suc_on (length a) n)
-
--- some of a text behind another is some of both
-pub part_more : (a b part : List ℕ) → IsPart b part → IsPart (a ++ b) (a ++ part)
-part_more a b part h = (length a + h.0, ap (λ (l : List ℕ). a ++ l) h.1 ∙ part_on a b h.0)
 
 pub leaves_same : (a b c : List Cmd) → Leaves a [] b → c ≡ b → Leaves a [] c
 leaves_same a b c h e = subst (λ (x : List Cmd). Leaves a [] x) (sym e) h
@@ -132,27 +120,37 @@ module _ (t : Terms) (old mid new : Moment) (call : Option Called) (last : Bool)
       broken_turn WriteFault part wrote (
         interim_of h.asked.head ++ text,
         inl text_turn,
-        part_more (interim_of h.asked.head) text part some,
+        part_behind (interim_of h.asked.head) text part some,
         rose_since old.write_faults mid.write_faults new.write_faults h.passes.write_later rose,
       ) few
 
-  module _ (n : ℕ) (off : tells.turn.kind ≡ broken_off n) (part : List ℕ) (some : IsPart text part) (wrote : new.held ≡ append_known mid.held part)
-      (few : old.count < 1000000) where
-    is_broken_off : IsBrokenOff t old [] (tells.turn ∷ []) (interim_of h.asked.head ++ part)
-    is_broken_off =
+  module _ (n : ℕ) (off : tells.turn.kind ≡ broken_off n) (meta : FileMeta) (asks : AsksBehind (desk t old) (first old) tells.turn meta) (part : List ℕ)
+      (some : IsPart text part) (wrote : new.held ≡ append_known mid.held part) (few : old.count < 1000000) where
+    is_broken_off : n < length meta.pieces → IsBrokenOff t old [] (tells.turn ∷ []) (interim_of h.asked.head ++ part)
+    is_broken_off fewer =
         let P : List ℕ → Type 0 = λ x. IsPart x (interim_of h.asked.head ++ part) in
-        (tells.turn, n, refl, off, subst P text_turn (part_more (interim_of h.asked.head) text part some))
+        record {
+          turn = tells.turn;
+          meta = meta;
+          count = n;
+          is = refl;
+          off = off;
+          asks = asks;
+          fewer = fewer;
+          some = subst P text_turn (part_behind (interim_of h.asked.head) text part some);
+        }
 
     port_rose : Rose mid.port_faults new.port_faults → Rose old.port_faults new.port_faults
     port_rose rose = rose_from old.port_faults mid.port_faults new.port_faults h.passes.port_faults rose
 
     -- the content that it asks for was broken off
-    pub broken_off_by : (end : ConnEnd) → IsCause end mid.port_faults new.port_faults mid.write_faults new.write_faults → Served t old new end
-    broken_off_by WriteFault cause = broken_by part some wrote cause few
-    broken_off_by DiskFault cause = broken_turn DiskFault part wrote (inr (is_broken_off, waits_turn), port_rose cause) few
-    broken_off_by NoMemory cause = broken_turn NoMemory part wrote (inr is_broken_off) few
-    broken_off_by Ended cause = absurd cause
-    broken_off_by Cut cause = absurd cause
-    broken_off_by Bad cause = absurd cause
-    broken_off_by ReadFault cause = absurd cause
-    broken_off_by Spent cause = absurd cause
+    pub broken_off_by : (end : ConnEnd) → (end ≢ WriteFault → n < length meta.pieces) → IsCause end mid.port_faults new.port_faults mid.write_faults new.write_faults
+        → Served t old new end
+    broken_off_by WriteFault fewer cause = broken_by part some wrote cause few
+    broken_off_by DiskFault fewer cause = broken_turn DiskFault part wrote (inr (is_broken_off (fewer (λ e. cc)), waits_turn), port_rose cause) few
+    broken_off_by NoMemory fewer cause = broken_turn NoMemory part wrote (inr (is_broken_off (fewer (λ e. cc)))) few
+    broken_off_by Ended fewer cause = absurd cause
+    broken_off_by Cut fewer cause = absurd cause
+    broken_off_by Bad fewer cause = absurd cause
+    broken_off_by ReadFault fewer cause = absurd cause
+    broken_off_by Spent fewer cause = absurd cause

@@ -25,8 +25,9 @@ use Rattle.session_http.specs.declared.conn.ConnEnd.{ConnEnd}
 use Rattle.session_http.specs.declared.conn.ConnEnd.TheVariants.{Ended, Cut, Bad, ReadFault, WriteFault, DiskFault, NoMemory, Spent}
 use Rattle.fh_model.proofs.Runs.{with_nothing}
 use Rattle.session_http.proofs.Heard.{Beside}
-use Rattle.session_http.proofs.Ones.{held_more, at_most_to, part_more}
+use Rattle.session_http.proofs.Ones.{held_more, at_most_to}
 use Rattle.session_http.proofs.Points.{known_same, waits_same}
+use Rattle.session_http.proofs.Sends.{part_behind}
 use Rattle.session_http.proofs.Talks.{at_most, rose_since, known_none}
 
 -- what a write leaves as it was
@@ -113,7 +114,7 @@ module _ {K : Type 0} (held : K → Option (List ℕ)) (faults : K → ℕ) (a b
         stops = (
           before ++ says.0,
           inr (last_text (old.unread ++ bytes) before it says.0 refused says.1),
-          part_more before says.0 breaks.part breaks.some,
+          part_behind before says.0 breaks.part breaks.some,
           broke t old bytes before h breaks.rose,
         );
       }

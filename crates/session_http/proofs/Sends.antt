@@ -18,34 +18,21 @@ use Rattle.fh_model.proofs.KeptBlockLaws.{kept_block, later_block}
 use Rattle.fh_model.proofs.Runs.{state_more, with_more_more, with_nothing}
 use Rattle.fh_model.proofs.VersionLaws.{versions_stay}
 use Rattle.host_seat.specs.Port.{IsBlock, KeepsPieces, OfBoth, OthersEnter, block_at}
+use Rattle.host_seat.proofs.PortLaws.{both_on, both_same, keeps_on, keeps_same}
 use Rattle.session_http.specs.Ends.{IsPart}
 use Rattle.session_http.specs.Sending.{BreaksOff, Fetches, HasBlock, IsVersion, SendsOn}
 use Rattle.session_http.specs.Steps.{Breaks}
+use Rattle.session_http.specs.declared.conn.ConnEnd.{ConnEnd}
+use Rattle.session_http.specs.declared.conn.ConnEnd.TheVariants.{WriteFault}
 use Rattle.session_http.proofs.Talks.{known_more}
 
 -- ---- the block file from one moment to the next
 
-both_on : (P Q R : List ℕ → List ℕ → Type 0) → ((x y z : List ℕ) → P x y → Q y z → R x z) → (a b c : Option (List ℕ)) → OfBoth P a b → OfBoth Q b c → OfBoth R a c
-both_on P Q R step None None None p q = tt
-both_on P Q R step None None (Some z) p q = absurd q
-both_on P Q R step None (Some y) c p q = absurd p
-both_on P Q R step (Some x) None c p q = absurd p
-both_on P Q R step (Some x) (Some y) None p q = absurd q
-both_on P Q R step (Some x) (Some y) (Some z) p q = step x y z p q
-
-both_same : (P : List ℕ → List ℕ → Type 0) → ((x : List ℕ) → P x x) → (a : Option (List ℕ)) → OfBoth P a a
-both_same P same None = tt
-both_same P same (Some x) = same x
-
-keeps_on : (s : State) (a b c : Option (List ℕ)) → KeepsPieces s a b → KeepsPieces s b c → KeepsPieces s a c
-keeps_on s a b c = both_on (λ x y. take (end_in s) y ≡ take (end_in s) x) (λ x y. take (end_in s) y ≡ take (end_in s) x) (λ x y. take (end_in s) y ≡ take (end_in s) x)
-    (λ x y z p q. q ∙ p) a b c
-
 shown_on : (s : State) (pieces : List Piece) (sent : List ℕ) (a b c : Option (List ℕ)) → OfBoth (λ blocks _. sent ≡ content_of blocks pieces) a b → KeepsPieces s b c
     → OfBoth (λ blocks _. sent ≡ content_of blocks pieces) a c
 shown_on s pieces sent a b c =
-    both_on (λ x y. sent ≡ content_of x pieces) (λ x y. take (end_in s) y ≡ take (end_in s) x) (λ x y. sent ≡ content_of x pieces)
-    (λ x y z p q. p) a b c
+    both_on (λ x y. sent ≡ content_of x pieces) (λ x y. take (end_in s) y ≡ take (end_in s) x) (λ x y. sent ≡ content_of x pieces) a b c
+    (λ x y z p q. p)
 
 -- ---- pieces
 
@@ -112,8 +99,8 @@ fetches_none alone kept blocks pieces = record {
   long = refl;
   grown = with_nothing kept;
   mine = λ is. refl;
-  shown = λ is. both_same (λ x y. [] ≡ content_of x []) (λ x. refl) blocks;
-  below = λ is. both_same (λ x y. take (end_in (state_of kept)) y ≡ take (end_in (state_of kept)) x) (λ x. refl) blocks;
+  shown = λ is. both_same (λ x y. [] ≡ content_of x []) blocks (λ x. refl);
+  below = λ is. keeps_same (state_of kept) blocks blocks refl;
 }
 
 module _ (alone : Bool) (old mid new : Kept) (before between after : Option (List ℕ)) (pieces : List Piece) (sent : List ℕ)
@@ -164,7 +151,7 @@ fetches_on alone old mid new before between after meta rev count block sent byte
 -- ---- what was sent
 
 -- the first of a text and of what stands behind it
-part_behind : (front text part : List ℕ) → IsPart text part → IsPart (front ++ text) (front ++ part)
+pub part_behind : (front text part : List ℕ) → IsPart text part → IsPart (front ++ text) (front ++ part)
 part_behind front text part some = (length front + some.0, ap (λ (l : List ℕ). front ++ l) some.1 ∙ sym (take-append-add front text some.0))
 
 all_of : (text : List ℕ) → IsPart text text
@@ -180,14 +167,15 @@ sends_head held alone kept blocks sink sink_now text pieces wrote = record {
 }
 
 pub breaks_head : {K : Type 0} (held : K → Option (List ℕ)) (faults : K → ℕ) (alone : Bool) (kept : Kept) (blocks : Option (List ℕ)) (sink sink_now : K) (text : List ℕ) (pieces : List Piece)
-    → Breaks held faults sink sink_now text → BreaksOff alone kept kept blocks blocks held sink sink_now text pieces
-breaks_head held faults alone kept blocks sink sink_now text pieces broken =
+    → (end : ConnEnd) → end ≡ WriteFault → Breaks held faults sink sink_now text → BreaksOff end alone kept kept blocks blocks held sink sink_now text pieces
+breaks_head held faults alone kept blocks sink sink_now text pieces end is broken =
     let P : List ℕ → Type 0 = λ l. IsPart l broken.part in
     record {
       count = 0;
       sent = [];
       part = broken.part;
       fetches = fetches_none alone kept blocks pieces;
+      fewer = λ other. absurd (other is);
       some = subst P (sym (append-nil text)) broken.some;
       wrote = broken.wrote;
     }
@@ -197,12 +185,13 @@ module _ {K : Type 0} (held : K → Option (List ℕ)) (alone : Bool) (old mid n
     (so : SendsOn alone old mid before between held sink sink_mid text (take block meta.pieces)) (enter : OthersEnter alone mid new)
     (keeps : IsTrue alone → KeepsPieces (state_of mid) between after) where
   -- the next block was not fetched
-  pub breaks_fetch : BreaksOff alone old new before after held sink sink_mid text meta.pieces
-  breaks_fetch = record {
+  pub breaks_fetch : (end : ConnEnd) → block < count → BreaksOff end alone old new before after held sink sink_mid text meta.pieces
+  breaks_fetch end less = record {
     count = block;
     sent = so.sent;
     part = text ++ so.sent;
     fetches = fetches_stay alone old mid new before between after (take block meta.pieces) so.sent so.fetches enter keeps;
+    fewer = λ _. omega (arith, less, is.count_is);
     some = all_of (text ++ so.sent);
     wrote = so.wrote;
   }
@@ -220,14 +209,16 @@ module _ {K : Type 0} (held : K → Option (List ℕ)) (alone : Bool) (old mid n
     }
 
     -- it was fetched, and not written whole
-    pub breaks_write : (faults : K → ℕ) → Breaks held faults sink_mid sink_now bytes → BreaksOff alone old new before after held sink sink_now text meta.pieces
-    breaks_write faults broken =
+    pub breaks_write : (faults : K → ℕ) (end : ConnEnd) → end ≡ WriteFault → Breaks held faults sink_mid sink_now bytes
+        → BreaksOff end alone old new before after held sink sink_now text meta.pieces
+    breaks_write faults end failed broken =
         let P : List ℕ → Type 0 = λ l. IsPart l ((text ++ so.sent) ++ broken.part) in
         record {
           count = block + 1;
           sent = so.sent ++ bytes;
           part = (text ++ so.sent) ++ broken.part;
           fetches = fetches_on alone old mid new before between after meta rev count block so.sent bytes is so.fetches enter keeps b;
+          fewer = λ other. absurd (other failed);
           some = subst P (append_assoc text so.sent bytes) (part_behind (text ++ so.sent) bytes broken.part broken.some);
           wrote = wrote_on broken.part broken.wrote;
         }

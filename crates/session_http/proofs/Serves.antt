@@ -1,24 +1,25 @@
 -- What a connection did from a moment on, said of it from its start.
 use Rattle.std.proofs.Common.{◌≡◌, ◌≢◌, ℕ, ◌+◌, ◌<◌, ◌≤◌, List, [], ◌∷◌, ◌++◌, All, length, refl, sym, ◌∙◌, ap, subst, append_assoc, append-nil, arith, length-append, inl, inr, ◌⊎◌, Bool, true, false, IsTrue}
 use Rattle.std.proofs.lemmas.List.Elements.{All-append, All-cons}
+use Rattle.std.proofs.Math.Nat.{add-zero}
 use Rattle.std.specs.Io.KnownBytes.{IsAtEnd, append_known, prepend_known}
 use Rattle.fh_model.specs.declared.commands.Cmd.{Cmd}
 use Rattle.fh_model.specs.History.{state_after, with_more}
 use Rattle.fh_model.specs.State.{State}
 use Rattle.host_seat.specs.Port.{KeepsPieces, Leaves}
+use Rattle.host_seat.proofs.PortLaws.{keeps_same, leaves_more}
 use Rattle.http_in.specs.Bodies.{done}
 use Rattle.http_in.specs.Requests.{BeginsWithBody}
 use Rattle.session_rules.specs.Asked.{asks_last}
-use Rattle.session_rules.specs.Connection.{Turn, cmd_with, decision, gained_in, text_in, texts}
+use Rattle.session_rules.specs.Connection.{Desk, Turn, cmd_with, decision, gained_in, text_in, texts}
 use Rattle.session_http.specs.Begun.{stay}
 use Rattle.session_http.specs.Talk.{Terms, Moment, IsTurn, IsWhole, Stored, Talk, desk, first, added, state_behind, replies, replies_behind}
-use Rattle.session_http.specs.Ends.{GoOn, EndsLast, IsBrokenOff, IsPart, IsWritten, IsStopped, EndsBy, Served}
+use Rattle.session_http.specs.Ends.{AsksBehind, GoOn, EndsLast, IsBrokenOff, IsPart, IsWritten, IsStopped, EndsBy, Served}
 use Rattle.session_http.specs.Steps.{Turned, StopsBy, Stops}
 use Rattle.session_http.specs.declared.conn.ConnEnd.{ConnEnd}
 use Rattle.session_http.specs.declared.conn.ConnEnd.TheVariants.{Ended, Cut, Bad, ReadFault, WriteFault, DiskFault, NoMemory, Spent}
 use Rattle.session_http.proofs.Begun.{begins_one}
-use Rattle.session_http.proofs.Callers.{keeps_same}
-use Rattle.session_http.proofs.Talks.{at_most, below_nothing, talk_starts, talk_on, state_on, same_desk, replies_on, leaves_more, rose_since, stored_idle, stored_more}
+use Rattle.session_http.proofs.Talks.{at_most, below_nothing, talk_starts, talk_on, state_on, same_desk, replies_on, rose_since, stored_idle, stored_more}
 
 -- the talk so far, where all requests that were read are answered, and none asked that the connection end
 pub record SoFar (t : Terms) (before now : Moment) : Type 0 where
@@ -33,16 +34,13 @@ pub record SoFar (t : Terms) (before now : Moment) : Type 0 where
   pub read_later : before.read_faults ≤ now.read_faults
   pub write_later : before.write_faults ≤ now.write_faults
 
-none_on : (n : ℕ) → n ≡ n + 0
-none_on n = omega arith
-
 pub so_far_starts : (t : Terms) (m : Moment) → SoFar t m m
 so_far_starts t m = record {
   turns = [];
   talk = talk_starts t m;
   stored = stored_idle t m m (λ _. keeps_same (first m) m.blocks m.blocks refl);
   whole = λ k d h. absurd (below_nothing k h);
-  counted = none_on m.count;
+  counted = sym (add-zero m.count);
   waits = inl refl;
   going = λ k d h. absurd (below_nothing k h);
   port_later = omega arith;
@@ -101,7 +99,19 @@ module _ (t : Terms) (before mid now : Moment) (so : SoFar t before mid) where
   broken_off_on : (answered broken : List Turn) (part : List ℕ) → IsBrokenOff t mid answered broken part → IsBrokenOff t before (so.turns ++ answered) broken part
   broken_off_on answered broken part h =
       let P : List ℕ → Type 0 = λ text. IsPart text part in
-      (h.0, h.1, h.2, h.3, subst P (text_on answered broken) h.4)
+      let D : Desk → Type 0 = λ d. AsksBehind d (state_behind t mid answered) h.turn h.meta in
+      let S : State → Type 0 = λ s. AsksBehind (desk t before) s h.turn h.meta in
+      record {
+        turn = h.turn;
+        meta = h.meta;
+        count = h.count;
+        is = h.is;
+        off = h.off;
+        asks = subst S (state_on t before mid so.turns (replies t before so.turns) so.talk answered)
+            (subst D (same_desk t before mid so.turns (replies t before so.turns) so.talk) h.asks);
+        fewer = h.fewer;
+        some = subst P (text_on answered broken) h.some;
+      }
 
   total_on : (n k m a c max : ℕ) → m ≡ n + k → c ≡ k + a → m + a ≡ max → n + c ≡ max
   total_on n k m a c max e f g = omega (arith, e, f, g)
@@ -357,7 +367,7 @@ module _ (t : Terms) (old new : Moment) (turn : Turn) (bytes : List ℕ) (begins
 
   -- the text of its reply, as that of a reply which may not be written whole
   pub text_behind : (text : List ℕ) → text ≡ text_in (desk t old) (first old) (old.count + 1) turn → text ≡ replies_behind t old [] (turn ∷ [])
-  text_behind text told = one_text text told ∙ ap (λ n. texts (desk t old) (first old) n (turn ∷ [])) (none_on (old.count + 1))
+  text_behind text told = one_text text told ∙ ap (λ n. texts (desk t old) (first old) n (turn ∷ [])) (sym (add-zero (old.count + 1)))
 
   -- it was answered
   pub turned : (text : List ℕ) → new.held ≡ append_known old.held text → text ≡ text_in (desk t old) (first old) (old.count + 1) turn → IsWhole turn.kind

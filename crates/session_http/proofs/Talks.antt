@@ -1,5 +1,5 @@
 -- A talk goes on: what is done from a moment on comes behind what was done up to it.
-use Rattle.std.proofs.Common.{◌≡◌, ℕ, ◌+◌, ◌<◌, ◌≤◌, arith, List, [], ◌∷◌, ◌++◌, All, Option, None, Some, IsTrue, length, refl, sym, ◌∙◌, ap, subst, append_assoc, append-nil, inl, inr}
+use Rattle.std.proofs.Common.{◌≡◌, ℕ, ◌+◌, ◌<◌, ◌≤◌, arith, List, [], ◌∷◌, ◌++◌, All, Option, None, Some, IsTrue, length, refl, sym, ◌∙◌, ap, subst, append_assoc, append-nil}
 use Rattle.std.proofs.lemmas.List.Elements.{All-append}
 use Rattle.std.specs.Io.KnownBytes.{append_known, prepend_known}
 use Rattle.fh_world.specs.Causes.{Rose}
@@ -8,13 +8,14 @@ use Rattle.fh_model.specs.History.{state_of, state_after, with_more}
 use Rattle.fh_model.specs.Pieces.{SamePieces}
 use Rattle.fh_model.specs.State.{State}
 use Rattle.fh_model.proofs.Runs.{state_more, with_more_more, state_after-append}
-use Rattle.host_seat.specs.Port.{KeepsPieces, Leaves, OfBoth}
+use Rattle.host_seat.specs.Port.{KeepsPieces, OfBoth}
+use Rattle.host_seat.proofs.PortLaws.{both_map, both_on}
 use Rattle.http_in.specs.Requests.{Request}
-use Rattle.session_rules.specs.Connection.{Desk, Turn, texts, gained, IsStored, SendAll}
+use Rattle.session_rules.specs.Connection.{Desk, IsAlone, Turn, texts, gained, IsStored, SendAll}
 use Rattle.session_rules.proofs.Blocks.{SendAll-append, stored_none, stored_on}
 use Rattle.session_rules.proofs.Turns.{gained-append, texts-append}
 use Rattle.session_http.specs.Begun.{Begins, stay}
-use Rattle.session_http.specs.Talk.{Terms, Moment, IsAlone, IsTurn, Stored, Talk, desk, requests, first, added, state_behind, replies}
+use Rattle.session_http.specs.Talk.{Terms, Moment, IsTurn, Stored, Talk, desk, requests, first, added, state_behind, replies}
 use Rattle.session_http.proofs.Begun.{begins_more, begins_on}
 
 pub known_more : (o : Option (List ℕ)) (a b : List ℕ) → append_known (append_known o a) b ≡ append_known o (a ++ b)
@@ -55,21 +56,6 @@ talk_starts t m =
     }
 
 -- ---- the block file
-
--- what follows from a block file to the next, and from that to a third
-both_on : (P Q R : List ℕ → List ℕ → Type 0) (x y z : Option (List ℕ)) → ((a b c : List ℕ) → P a b → Q b c → R a c) → OfBoth P x y → OfBoth Q y z → OfBoth R x z
-both_on P Q R None None None is p q = tt
-both_on P Q R None None (Some c) is p q = q
-both_on P Q R None (Some b) z is p q = absurd p
-both_on P Q R (Some a) None z is p q = absurd p
-both_on P Q R (Some a) (Some b) None is p q = q
-both_on P Q R (Some a) (Some b) (Some c) is p q = is a b c p q
-
-pub both_map : (P R : List ℕ → List ℕ → Type 0) (x y : Option (List ℕ)) → ((a b : List ℕ) → P a b → R a b) → OfBoth P x y → OfBoth R x y
-both_map P R None None is p = tt
-both_map P R None (Some b) is p = p
-both_map P R (Some a) None is p = p
-both_map P R (Some a) (Some b) is p = is a b p
 
 -- no request was answered, and the pieces stayed as they were
 pub stored_idle : (t : Terms) (before now : Moment) → (IsTrue t.alone → KeepsPieces (first before) before.blocks now.blocks) → Stored t before now []
@@ -160,14 +146,6 @@ module _ (t : Terms) (before mid : Moment) (turns : List Turn) (text : List ℕ)
             (λ x y z p q. stored_on d s turns more x y z (all_alone t turns h.each alone) (all_alone t more each alone) sends p q)
             (stored.blocks alone) (subst T talk_state (subst R same_desk (next.blocks alone)));
       }
-
--- what waits after one more call
-pub leaves_more : (a b c failed : List Cmd) → Leaves a [] b → Leaves b failed c → Leaves a failed c
-leaves_more a b c failed (inl e) (inl f) = inl (f ∙ e)
-leaves_more a b c failed (inr (inl e)) (inl f) = inr (inl (f ∙ e))
-leaves_more a b c failed (inr (inr e)) (inl f) = inr (inl (f ∙ e))
-leaves_more a b c failed h (inr (inl f)) = inr (inl f)
-leaves_more a b c failed h (inr (inr f)) = inr (inr f)
 
 pub at_most : (a b c : ℕ) → a ≤ b → b ≤ c → a ≤ c
 at_most a b c h g = omega (arith, h, g)

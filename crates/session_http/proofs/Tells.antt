@@ -3,6 +3,7 @@ use Rattle.std.proofs.Common.{◌≡◌, ℕ, ◌+◌, ◌<◌, ◌≤◌, ◌||
 use Rattle.std.specs.Io.KnownBytes.{append_known, prepend_known}
 use Rattle.fh_world.specs.Causes.{Rose}
 use Rattle.fh_model.specs.declared.commands.Cmd.{Cmd}
+use Rattle.fh_model.specs.declared.files.FileMeta.{FileMeta}
 use Rattle.fh_model.specs.declared.pieces.Piece.{Piece}
 use Rattle.fh_model.specs.Content.{content_of, size_of}
 use Rattle.fh_model.specs.History.{Kept, state_of, state_after, with_more}
@@ -11,6 +12,7 @@ use Rattle.fh_model.specs.Resolve.{resolve}
 use Rattle.fh_model.specs.State.{State}
 use Rattle.fh_model.proofs.Runs.{state_more, with_more_more}
 use Rattle.host_seat.specs.Port.{KeepsPieces, Leaves, OfBoth}
+use Rattle.host_seat.proofs.PortLaws.{both_from, both_map, keeps_same}
 use Rattle.host_seat.specs.declared.port.CommitFault.{CommitFault}
 use Rattle.host_seat.specs.declared.port.CommitFault.TheVariants as fault
 use Rattle.http_in.specs.Requests.{Request}
@@ -20,18 +22,17 @@ use Rattle.session_rules.specs.Decisions.{Called, Decision, decided, loads}
 use Rattle.session_rules.specs.Replies.{Said, load_of, pieces_in, said_by, size_in, text_of, out_of_memory}
 use Rattle.session_rules.specs.declared.loading.Load.{Load}
 use Rattle.session_rules.specs.declared.loading.Load.TheVariants as load
-use Rattle.session_http.specs.Ends.{IsPart, Served}
+use Rattle.session_http.specs.Ends.{AsksBehind, AsksFor, IsPart, Served}
 use Rattle.session_http.specs.Points.{Acts, Finds, Misses, IsStuck}
 use Rattle.session_http.specs.Sending.{Fetches}
 use Rattle.session_http.specs.Steps.{GoesOn, Hears}
 use Rattle.session_http.specs.Talk.{Terms, Moment, IsWhole, desk, first}
 use Rattle.session_http.specs.declared.bodies.Body.{Body}
 use Rattle.session_http.specs.declared.conn.ConnEnd.TheVariants.{DiskFault, WriteFault}
-use Rattle.session_http.proofs.Callers.{both_from, keeps_same}
 use Rattle.session_http.proofs.Ones.{Stays, Tells, turned_by, broken_by}
 use Rattle.session_http.proofs.Points.{turn_of, told_same, fact_same, grown_turn, blocks_turn, decision_same, state_mid}
 use Rattle.session_http.proofs.Serves.{serve_none}
-use Rattle.session_http.proofs.Talks.{below_nothing, both_map}
+use Rattle.session_http.proofs.Talks.{below_nothing}
 
 pub memory_is_no_disk : {T : Type 0} (f : CommitFault) → f ≡ fault.NoMemory → IsErrOf {T = T} (Err f) fault.Disk → ⊥
 memory_is_no_disk f is e = cc
@@ -41,13 +42,15 @@ pub record TellsWhole (t : Terms) (old new : Moment) (asked : Request) (text : L
   pub tells : Tells t old new asked text
   pub whole : IsWhole tells.turn.kind
 
--- it is of this kind
-pub record TellsAs (t : Terms) (old new : Moment) (asked : Request) (text : List ℕ) (kind : Kind) : Type 0 where
+-- it is of this kind, and asks for the content of this file
+pub record TellsAs (t : Terms) (old new : Moment) (asked : Request) (text : List ℕ) (kind : Kind) (meta : FileMeta) : Type 0 where
   pub tells : Tells t old new asked text
   pub kind_is : tells.turn.kind ≡ kind
+  pub asks : AsksBehind (desk t old) (first old) tells.turn meta
 
-pub as_whole : (t : Terms) (old new : Moment) (asked : Request) (text : List ℕ) → TellsAs t old new asked text told → TellsWhole t old new asked text
-as_whole t old new asked text h = record { tells = h.tells; whole = subst IsWhole (sym h.kind_is) tt }
+pub as_whole : (t : Terms) (old new : Moment) (asked : Request) (text : List ℕ) (meta : FileMeta) → TellsAs t old new asked text told meta
+    → TellsWhole t old new asked text
+as_whole t old new asked text meta h = record { tells = h.tells; whole = subst IsWhole (sym h.kind_is) tt }
 
 -- what became of the block file by one request
 stored_one : (d : Desk) (s : State) (turn : Turn) (x y : List ℕ) → SamePieces (state_after s (gained_in d s turn)) y (blocks_in d s x turn)
@@ -350,9 +353,14 @@ module _ (t : Terms) (old mid new : Moment) (it : Called) (last : Bool) (arg : O
       blocks = blocks_content;
     }
 
-    pub content_as : IfSome t.second (λ s. at ≡ s) → close ≡ closes (old.count + 1) h.asked.head → TellsAs t old new h.asked (head ++ sent) kind
+    asks_content : AsksBehind (desk t old) (first old) content_turn finds.meta
+    asks_content =
+        fact_found (λ s l. l ≡ load.File finds.names finds.meta) refl (λ s d. AsksFor s d finds.meta)
+        (λ s there. record { user = finds.user; path = finds.path; names = finds.names; loads_it = refl; there = there })
+
+    pub content_as : IfSome t.second (λ s. at ≡ s) → close ≡ closes (old.count + 1) h.asked.head → TellsAs t old new h.asked (head ++ sent) kind finds.meta
     unfolding tells_content
-    content_as timed is = record { tells = tells_content timed is; kind_is = refl }
+    content_as timed is = record { tells = tells_content timed is; kind_is = refl; asks = asks_content }
 
   -- ---- the disk failed as its command was to enter
 

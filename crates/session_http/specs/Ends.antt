@@ -4,15 +4,20 @@ use Rattle.std.specs.Io.KnownBytes.{IsAtEnd}
 use Rattle.fh_world.specs.Causes.{Rose}
 use Rattle.fh_model.specs.declared.commands.Act.{Act}
 use Rattle.fh_model.specs.declared.commands.Cmd.{Cmd}
+use Rattle.fh_model.specs.declared.files.FileMeta.{FileMeta}
 use Rattle.fh_model.specs.declared.limits.TheConstants.{REQUESTS_MAX}
+use Rattle.fh_model.specs.declared.names.Name.{Name}
 use Rattle.fh_model.specs.History.{state_after}
+use Rattle.fh_model.specs.Resolve.{resolve}
+use Rattle.fh_model.specs.State.{State}
 use Rattle.host_seat.specs.Port.{Leaves}
 use Rattle.http_in.specs.Bodies.{done}
 use Rattle.http_in.specs.Requests.{BeginsWithBody}
 use Rattle.session_rules.specs.Asked.{asks_last}
-use Rattle.session_rules.specs.Connection.{Turn, broken_off, cmd_with, decision, interim_of}
-use Rattle.session_rules.specs.Decisions.{enters}
-use Rattle.session_rules.specs.Replies.{Said, out_of_memory, text_of}
+use Rattle.session_rules.specs.Connection.{Desk, Turn, broken_off, cmd_with, decision, interim_of, state_at}
+use Rattle.session_rules.specs.Decisions.{Decision, enters, loads}
+use Rattle.session_rules.specs.Replies.{Said, load_of, out_of_memory, text_of}
+use Rattle.session_rules.specs.declared.loading.Load.TheVariants as load
 use Rattle.session_http.specs.Begun.{IsBegun, IsCutShort, IsGreeted, IsOpened, IsRefused}
 use Rattle.session_http.specs.Talk.{Terms, Moment, IsTurn, IsWhole, Stored, Talk, desk, replies, replies_behind, state_behind}
 use Rattle.session_http.specs.declared.conn.ConnEnd.{ConnEnd}
@@ -53,11 +58,29 @@ pub record IsStopped (t : Terms) (before now : Moment) (answered : List Turn) (b
   pub wrote : part ≡ interim_of turn.asked.head
   pub left : Leaves before.waits (cmd_with before.number turn.at (state_after (state_behind t before answered) turn.others) act bytes ∷ []) now.waits
 
--- Of the content that a request asks for only the first pieces were fetched, and some of its reply from its start was
--- written.
-abbrev pub IsBrokenOff : Terms → Moment → List Turn → List Turn → List ℕ → Type 0
-IsBrokenOff t before answered broken part =
-    (turn : Turn) × (n : ℕ) × (broken ≡ turn ∷ []) × (turn.kind ≡ broken_off n) × IsPart (replies_behind t before answered broken) part
+-- the content of this file is asked for, to which the path leads in this state
+pub record AsksFor (s : State) (d : Decision) (meta : FileMeta) : Type 0 where
+  pub user : ℕ
+  pub path : List ℕ
+  pub names : List Name
+  pub loads_it : d ≡ loads user path
+  pub there : load_of (resolve s user path) ≡ load.File names meta
+
+-- and it is by a request that comes to its look behind this state
+abbrev pub AsksBehind : Desk → State → Turn → FileMeta → Type 0
+AsksBehind desk s turn meta = AsksFor (state_at s turn) (decision desk s turn) meta
+
+-- A request asks for the content of a file. Of this only the first pieces were fetched, which are not all, and some of
+-- its reply from its start was written.
+pub record IsBrokenOff (t : Terms) (before : Moment) (answered broken : List Turn) (part : List ℕ) : Type 0 where
+  pub turn : Turn
+  pub meta : FileMeta
+  pub count : ℕ
+  pub is : broken ≡ turn ∷ []
+  pub off : turn.kind ≡ broken_off count
+  pub asks : AsksBehind (desk t before) (state_behind t before answered) turn meta
+  pub fewer : count < length meta.pieces
+  pub some : IsPart (replies_behind t before answered broken) part
 
 -- Why a connection may end so. `answered` are the requests whose replies were written, `broken` is the one whose reply
 -- was not written whole, `behind` what others entered since, `rest` what was read behind the requests, and `part` what

@@ -1,5 +1,5 @@
 -- What the calls of a port did for one request, each at its point of the history.
-use Rattle.std.specs.Prelude.{ℕ, ◌≡◌, ◌≤◌, Bool, if◌then◌else◌, List, [], ◌∷◌, ◌++◌, length, IsTrue, Option, None, Some, IfSome, Result, Ok, Err}
+use Rattle.std.specs.Prelude.{ℕ, ◌≡◌, ◌≤◌, Bool, true, false, if◌then◌else◌, List, [], ◌∷◌, ◌++◌, length, IsTrue, Option, None, Some, IfSome, Result, Ok, Err}
 use Rattle.fh_model.specs.declared.commands.Act.{Act}
 use Rattle.fh_model.specs.declared.commands.Cmd.{Cmd}
 use Rattle.fh_model.specs.declared.files.FileMeta.{FileMeta}
@@ -33,6 +33,12 @@ called_as (Err fault) = refused (fault_said fault)
 abbrev pub called_if : Result (Result (Route × ℕ) HeadFault) NoMemory → Option Called
 called_if (Ok call) = Some (called_as call)
 called_if (Err fault) = None
+
+-- a user is known to call a route
+abbrev pub is_called : Option Called → Bool
+is_called (Some (calls route user)) = true
+is_called (Some (refused it)) = false
+is_called None = false
 
 -- who calls was decided, or memory was wanting for it, at a point that begins with what was seen
 pub record Calls (alone : Bool) (admin : List ℕ) (old new : Kept) (method target : List ℕ) (token : Option (List ℕ)) (call : Option Called) : Type 0 where

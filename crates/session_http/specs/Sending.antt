@@ -1,5 +1,5 @@
 -- What sending the content of a file leaves.
-use Rattle.std.specs.Prelude.{ℕ, ◌≡◌, ◌<◌, Bool, List, [], ◌++◌, length, take, IsTrue, Option}
+use Rattle.std.specs.Prelude.{ℕ, ◌≡◌, ◌≢◌, ◌<◌, Bool, List, [], ◌++◌, length, take, IsTrue, Option}
 use Rattle.fh_world.specs.Bytes.{Holds}
 use Rattle.fh_world.specs.Causes.{Rose}
 use Rattle.fh_model.specs.declared.commands.Cmd.{Cmd}
@@ -55,12 +55,14 @@ IsCause Bad port_old port_new sink_old sink_new = ⊥
 IsCause ReadFault port_old port_new sink_old sink_new = ⊥
 IsCause Spent port_old port_new sink_old sink_new = ⊥
 
--- the first pieces were fetched, so many of them, and some of the text and their content was written
-pub record BreaksOff {K : Type 0} (alone : Bool) (old new : Kept) (before after : Option (List ℕ)) (held : K → Option (List ℕ)) (sink sink_now : K)
+-- The first pieces were fetched, so many of them, and some of the text and their content was written. These are not all,
+-- unless it was the sink that failed.
+pub record BreaksOff {K : Type 0} (end : ConnEnd) (alone : Bool) (old new : Kept) (before after : Option (List ℕ)) (held : K → Option (List ℕ)) (sink sink_now : K)
     (text : List ℕ) (pieces : List Piece) : Type 0 where
   pub count : ℕ
   pub sent : List ℕ
   pub part : List ℕ
   pub fetches : Fetches alone old new before after (take count pieces) sent
+  pub fewer : end ≢ WriteFault → count < length pieces
   pub some : IsPart (text ++ sent) part
   pub wrote : Holds held sink sink_now part

@@ -18,9 +18,10 @@ use Rattle.session_rules.specs.Connection.{Turn, interim_of}
 use Rattle.session_rules.specs.Decisions.{Called, called}
 use Rattle.session_rules.specs.Replies.{Said, text_of, out_of_memory}
 use Rattle.session_http.specs.Begun.{IsBegun, IsCutShort, IsGreeted, IsOpened}
-use Rattle.session_http.specs.Bodies.{Holds as HoldsContent}
+use Rattle.session_http.specs.Bodies.{GoneOnlyFor, Holds as HoldsContent}
 use Rattle.session_http.specs.declared.bodies.Body.{Body}
 use Rattle.session_http.specs.Ends.{IsLastText, IsPart}
+use Rattle.session_http.specs.Points.{is_called}
 use Rattle.session_http.specs.Talk.{Terms, Moment, Talk, Stored, IsWhole, replies}
 use Rattle.session_http.specs.declared.conn.ConnEnd.{ConnEnd}
 use Rattle.session_http.specs.declared.conn.ConnEnd.TheVariants.{Ended, Cut, Bad, ReadFault, WriteFault, DiskFault, NoMemory, Spent}
@@ -114,6 +115,12 @@ pub record Hears (t : Terms) (old new : Moment) (call : Option Called) (last : B
   pub asked_last : last ≡ asks_last asked.head
   pub argued : arg ≡ arg_in asked.head
   pub holds : HoldsContent body kept asked.content
+
+-- Its body is gone only where nobody is known to call, or where the buffer, which had room for so many bytes, had too
+-- little for it.
+pub record HearsAll (t : Terms) (old new : Moment) (call : Option Called) (last : Bool) (arg : Option (List ℕ)) (body : Body) (kept : List ℕ) (room : ℕ) : Type 0 where
+  pub hears : Hears t old new call last arg body kept
+  pub gone : GoneOnlyFor (is_called call) room body hears.asked.content
 
 -- no whole request was read
 pub record Stops (t : Terms) (old new : Moment) (end : ConnEnd) : Type 0 where

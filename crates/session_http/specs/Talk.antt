@@ -1,5 +1,5 @@
 -- What a connection has done so far, as its port, its source, its sink and its clock saw it.
-use Rattle.std.specs.Prelude.{ℕ, ◌≡◌, ◌+◌, List, [], ◌++◌, length, map, All, Bool, IsTrue, Option, IfSome}
+use Rattle.std.specs.Prelude.{ℕ, ◌≡◌, ◌+◌, List, ◌++◌, length, map, All, Bool, IsTrue, Option, IfSome}
 use Rattle.std.specs.Io.KnownBytes.{append_known, prepend_known}
 use Rattle.fh_world.specs.declared.source.Source as source
 use Rattle.fh_world.specs.declared.sink.Sink as sink
@@ -9,7 +9,7 @@ use Rattle.fh_model.specs.State.{State}
 use Rattle.host_seat.specs.declared.view.View as view
 use Rattle.host_seat.specs.Port.{OfBoth}
 use Rattle.http_in.specs.Requests.{Request}
-use Rattle.session_rules.specs.Connection.{Desk, Turn, Kind, told, broken_off, unavailable, texts, gained, IsStored, SendAll}
+use Rattle.session_rules.specs.Connection.{Desk, IsAlone, Turn, Kind, told, broken_off, unavailable, texts, gained, IsStored, SendAll}
 use Rattle.session_http.specs.Begun.{Begins}
 
 -- what holds for a connection from its start to its end: whether nobody else lets commands enter, the clock's second
@@ -53,10 +53,6 @@ moment of_port of_source of_sink p s k count unread = record {
   count = count;
   unread = unread;
 }
-
--- nobody else's commands came in it
-abbrev pub IsAlone : Turn → Type 0
-IsAlone turn = (turn.others ≡ []) × (turn.between ≡ []) × (turn.after ≡ [])
 
 -- its command is at the clock's second, and nobody else's came where the port is alone
 pub record IsTurn (t : Terms) (turn : Turn) : Type 0 where

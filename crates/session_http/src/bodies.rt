@@ -1,9 +1,9 @@
 //! Reads the body of a request to its end, and keeps it or drops it.
-ghost use Rattle.std.specs.Prelude.{◌≡◌, ◌<◌, ◌≤◌, [], length};
+ghost use Rattle.std.specs.Prelude.{◌≡◌, ◌+◌, ◌<◌, ◌≤◌, [], length, vec_capacity};
 ghost use Rattle.fh_world.specs.Causes.{Rose};
 ghost use Rattle.fh_model.specs.declared.limits.TheConstants.{BLOCK_BYTES};
 ghost use Rattle.http_in.specs.Stands.{IsInside};
-ghost use Rattle.session_http.specs.Bodies.{BodyRead, KeepsOn};
+ghost use Rattle.session_http.specs.Bodies.{BodyRead, KeepsOn, LosesOnly};
 
 use fh_model::BLOCK_BYTES;
 use fh_world::Source;
@@ -27,6 +27,8 @@ fn keep(body: Body, kept: &mut Vec<u8>, portion: &[u8]) -> Body
     requires few { length kept.old.items ≤ BLOCK_BYTES }
     ensures more { KeepsOn body kept.old.items portion.now result kept.new.items }
     ensures few { length kept.new.items ≤ BLOCK_BYTES }
+    ensures loses { LosesOnly body (vec_capacity kept.old) (length kept.old.items + length portion.now) result }
+    ensures room { vec_capacity kept.old ≤ vec_capacity kept.new }
 {
     if body != Body::Whole {
         return body;
@@ -53,7 +55,7 @@ pub(crate) fn read_body<S: Source>(
     requires room { 0 < length portion.old }
     requires empty { buffer.old.items ≡ [] }
     ensures read { BodyRead S.given S.left source.old source.new reader.old.held reader.new.held reader.old.state
-        result.1 buffer.new.items result.0 }
+        keeps (vec_capacity buffer.old) result.1 buffer.new.items result.0 }
     ensures few { length buffer.new.items ≤ BLOCK_BYTES }
     ensures done { result.0 ≡ BodyEnd.Done → reader.new.state ≡ State.Between }
     ensures place { S.place source.new ≡ S.place source.old }

@@ -1,5 +1,5 @@
 //! Reads the next request of a connection, and decides on the way who calls which route.
-ghost use Rattle.std.specs.Prelude.{◌≡◌, ◌≤◌, length, true, IsTrue, IfOk, OnOk, OnErr, IfErr, IfSome, option_map};
+ghost use Rattle.std.specs.Prelude.{◌≡◌, ◌≤◌, length, true, IsTrue, IfOk, OnOk, OnErr, IfErr, IfSome, option_map, vec_capacity};
 ghost use Rattle.fh_model.specs.declared.limits.TheConstants.{BLOCK_BYTES};
 ghost use Rattle.fh_world.specs.Bytes.{Holds};
 ghost use Rattle.http_in.specs.Parts.{limit_of};
@@ -7,8 +7,8 @@ ghost use Rattle.http_in.specs.Stands.{place_of};
 ghost use Rattle.session_rules.specs.Connection.{interim_if};
 ghost use Rattle.session_rules.specs.Replies.{Said, interim_text, text_of};
 ghost use Rattle.session_http.specs.Conn.{source_of, sink_of};
-ghost use Rattle.session_http.specs.Points.{called_if};
-ghost use Rattle.session_http.specs.Steps.{Breaks, Hears, Opens, SaysLast, Stops};
+ghost use Rattle.session_http.specs.Points.{called_if, is_called};
+ghost use Rattle.session_http.specs.Steps.{Breaks, HearsAll, Opens, SaysLast, Stops};
 ghost use Rattle.session_http.specs.Talk.{moment, terms};
 
 use crate::answering::{Call, find_caller};
@@ -89,7 +89,9 @@ fn refuse<K: Sink>(sink: &mut K, reply: Result<Vec<u8>, NoMemory>) -> ConnEnd
 }
 
 /// Whether the body of a request is kept: where a user calls a route.
-fn keeps(call: &Result<Call, NoMemory>) -> bool {
+fn keeps(call: &Result<Call, NoMemory>) -> bool
+    ensures { result ≡ is_called (called_if call.now) }
+{
     match call {
         Ok(Ok(_)) => true,
         _ => false,
@@ -127,6 +129,7 @@ fn read_head<P: Port, S: Source, K: Sink, C: Clock>(
     ensures range { IfOk result (λ opened. opened.at ≤ LAST_SECOND) }
     ensures timed { IfOk result (λ opened. IfSome (C.second clock.old) (λ s. opened.at ≡ s)) }
     ensures inside { IfOk result (λ opened. conn.new.reader.state ≡ State.Inside (place_of (limit_of opened.head.target.items) opened.head.length)) }
+    ensures buffer { conn.new.buffer ≡ conn.old.buffer }
     ensures second { C.second clock.new ≡ C.second clock.old }
     ensures went { P.went port.old port.new }
     ensures source_place { S.place (source_of conn.new) ≡ S.place (source_of conn.old) }
@@ -159,10 +162,11 @@ pub(crate) fn receive<P: Port, S: Source, K: Sink, C: Clock>(
     admin: &Text,
 ) -> Result<Heard, ConnEnd>
     requires { conn.old.reader.state ≡ State.Between }
-    ensures ok { IfOk result (λ heard. Hears (terms P.alone (C.second clock.old) admin.now)
+    // The body of who calls a route is gone only for want of memory: where the buffer had the room it is there.
+    ensures ok { IfOk result (λ heard. HearsAll (terms P.alone (C.second clock.old) admin.now)
         (moment P.View S.Source K.Sink port.old (source_of conn.old) (sink_of conn.old) conn.old.answered conn.old.reader.held)
         (moment P.View S.Source K.Sink port.new (source_of conn.new) (sink_of conn.new) conn.new.answered conn.new.reader.held)
-        (called_if heard.call) heard.last (option_map (λ bytes. bytes.items) heard.arg) heard.body conn.new.buffer.items) }
+        (called_if heard.call) heard.last (option_map (λ bytes. bytes.items) heard.arg) heard.body conn.new.buffer.items (vec_capacity conn.old.buffer)) }
     ensures err { IfErr result (λ end. Stops (terms P.alone (C.second clock.old) admin.now)
         (moment P.View S.Source K.Sink port.old (source_of conn.old) (sink_of conn.old) conn.old.answered conn.old.reader.held)
         (moment P.View S.Source K.Sink port.new (source_of conn.new) (sink_of conn.new) conn.new.answered conn.new.reader.held) end) }

@@ -44,7 +44,7 @@ pub(crate) fn send<P: Port, K: Sink>(
     ensures ok { (meta : FileMeta) → IsVersion (state_of (P.seen port.old)) meta rev count
         → OnOk result (SendsOn P.alone (P.seen port.old) (P.seen port.new) (P.blocks port.old) (P.blocks port.new) K.held sink.old sink.new head.now meta.pieces) }
     ensures err { (meta : FileMeta) → IsVersion (state_of (P.seen port.old)) meta rev count
-        → IfErr result (λ _. BreaksOff P.alone (P.seen port.old) (P.seen port.new) (P.blocks port.old) (P.blocks port.new) K.held sink.old sink.new head.now meta.pieces) }
+        → IfErr result (λ end. BreaksOff end P.alone (P.seen port.old) (P.seen port.new) (P.blocks port.old) (P.blocks port.new) K.held sink.old sink.new head.now meta.pieces) }
     ensures end { IfErr result (λ end. IsCause end (P.faults port.old) (P.faults port.new) (K.faults sink.old) (K.faults sink.new)) }
     ensures waits { P.waits port.new ≡ P.waits port.old }
     ensures number { P.number port.new ≡ P.number port.old }
@@ -63,7 +63,7 @@ pub(crate) fn send<P: Port, K: Sink>(
             Err(end) => return Err(end),
         };
         match write(sink, &bytes) {
-            Ok(()) => {}
+            Ok(()) => port.give_back(bytes),
             Err(end) => return Err(end),
         }
     }

@@ -1,17 +1,10 @@
 -- Where the argument of a request stands.
-use Rattle.std.proofs.Common.{◌≡◌, ℕ, Bool, true, false, if◌then◌else◌, List, Option, None, Some, refl, ap}
+use Rattle.std.proofs.Common.{◌≡◌, ℕ, Bool, true, false, List, Option, None, Some, refl, ap}
 use Rattle.api_types.specs.declared.route.Route.{Route}
 use Rattle.api_types.specs.Routes.{has_content}
 use Rattle.session_rules.specs.Decisions.{argued, argued_by}
 use Rattle.session_rules.specs.Judged.{IsBody}
-
-chosen : (test : Bool) (some other : Option (List ℕ)) → test ≡ true → (if test then some else other) ≡ some
-chosen true some other is = refl
-chosen false some other is = absurd (cc)
-
-passed : (test : Bool) (some other : Option (List ℕ)) → test ≡ false → (if test then some else other) ≡ other
-passed true some other is = absurd (cc)
-passed false some other is = refl
+use Rattle.session_rules.proofs.Choices.{chosen, passed}
 
 pub argued_in_header : (route : Route) (user : ℕ) (arg : Option (List ℕ)) (content : List ℕ) → has_content route ≡ true
     → argued route user arg content ≡ argued_by route user content arg

@@ -1,6 +1,6 @@
 -- What requests make of the block file and what they send of it, where nobody else lets commands enter meanwhile.
-use Rattle.std.proofs.Common.{◌≡◌, ℕ, zero, suc, ◌+◌, ◌≤◌, Bool, true, false, if◌then◌else◌, List, [], ◌∷◌, ◌++◌, All, length, slice_get, take, Some, None, refl, sym, ap, subst, ◌∙◌, arith, append_assoc, append-nil, length-append}
-use Rattle.std.proofs.lemmas.List.{length-take, length-take-le, take-take, take_all}
+use Rattle.std.proofs.Common.{◌≡◌, ℕ, ◌+◌, ◌≤◌, Bool, true, false, if◌then◌else◌, List, [], ◌∷◌, ◌++◌, All, length, take, refl, sym, ap, subst, ◌∙◌, arith, append-nil, length-append}
+use Rattle.std.proofs.lemmas.List.{length-take, length-take-le, take-take}
 use Rattle.std.proofs.lemmas.List.Elements.{All-from_recursion, All-head, All-tail, All-take}
 use Rattle.std.specs.List.{AllByRecursion as ByRecursion}
 use Rattle.std.specs.Option.{option_to_list}
@@ -9,7 +9,7 @@ use Rattle.fh_model.specs.declared.commands.Act.TheVariants.{MakeFolder, Upload}
 use Rattle.fh_model.specs.declared.commands.Cmd.{Cmd}
 use Rattle.fh_model.specs.declared.files.FileMeta.{FileMeta}
 use Rattle.fh_model.specs.declared.pieces.Piece.{Piece}
-use Rattle.fh_model.specs.Content.{content_of, size_of, slice_of}
+use Rattle.fh_model.specs.Content.{content_of, slice_of}
 use Rattle.fh_model.specs.History.{state_after}
 use Rattle.fh_model.specs.KeptFiles.{IsKept}
 use Rattle.fh_model.specs.Pieces.{SamePieces, blocks_with, data_of, end_in, end_of, last_end, named_in, piece_of, pieces_in, placed, with_piece}
@@ -19,13 +19,9 @@ use Rattle.fh_model.proofs.HeldLaws.{same_slice}
 use Rattle.fh_model.proofs.KeptBlockLaws.{kept_pieces}
 use Rattle.fh_model.proofs.PieceLaws.{step_end}
 use Rattle.fh_model.proofs.Runs.{state_after-append}
-use Rattle.session_rules.specs.Connection.{Desk, IsStored, Kind, SendAll, ShowAll, Turn, blocks_behind, blocks_in, broken_off, cmd_of, cmd_with, decision, entered_as, entered_by, fetched, gained, gained_in, put_as, put_by, state_at, told, unavailable}
+use Rattle.session_rules.specs.Connection.{Desk, IsAlone, IsStored, Kind, SendAll, ShowAll, Turn, blocks_behind, blocks_in, broken_off, cmd_of, cmd_with, decision, entered_as, entered_by, fetched, gained, gained_in, put_as, put_by, state_at, told, unavailable}
 use Rattle.session_rules.specs.Decisions.{Decision, says, enters, looks, loads}
 use Rattle.session_rules.proofs.Turns.{gained-append}
-
--- nobody else let a command enter from the request before it until its reply was at hand
-abbrev pub IsAlone : Turn → Type 0
-IsAlone turn = (turn.others ≡ []) × (turn.between ≡ []) × (turn.after ≡ [])
 
 -- ---- more requests behind these
 
@@ -268,38 +264,3 @@ pieces_lie s meta is =
 -- so do the first ones
 pub first_lie : (s : State) (meta : FileMeta) (n : ℕ) → IsKept s meta → All (λ piece. end_of piece ≤ end_in s) (take n meta.pieces)
 first_lie s meta n is = All-take (λ piece. end_of piece ≤ end_in s) n meta.pieces (pieces_lie s meta is)
-
--- ---- one piece more
-
-next_taken : (pieces : List Piece) (n : ℕ) (piece : Piece) → slice_get pieces n ≡ Some piece → take (suc n) pieces ≡ take n pieces ++ piece ∷ []
-next_taken [] n piece is = cc
-next_taken (first ∷ pieces) zero piece is = let e : first ≡ piece = cc in ap (λ (one : Piece). one ∷ []) e
-next_taken (first ∷ pieces) (suc n) piece is = ap (λ (l : List Piece). first ∷ l) (next_taken pieces n piece is)
-
-one_taken : (pieces : List Piece) (n : ℕ) (piece : Piece) → slice_get pieces n ≡ Some piece → take (n + 1) pieces ≡ take n pieces ++ piece ∷ []
-one_taken pieces n piece is = let e : n + 1 ≡ suc n = omega arith in ap (λ k. take k pieces) e ∙ next_taken pieces n piece is
-
-content_push : (x : List ℕ) (pieces : List Piece) (piece : Piece) → content_of x (pieces ++ piece ∷ []) ≡ content_of x pieces ++ slice_of x piece
-content_push x [] piece = append-nil (slice_of x piece)
-content_push x (first ∷ pieces) piece =
-    ap (λ (l : List ℕ). slice_of x first ++ l) (content_push x pieces piece) ∙ sym (append_assoc (slice_of x first) (content_of x pieces) (slice_of x piece))
-
-size_push : (pieces : List Piece) (piece : Piece) → size_of (pieces ++ piece ∷ []) ≡ size_of pieces + piece.len
-size_push [] piece = omega arith
-size_push (first ∷ pieces) piece = omega (arith, size_push pieces piece)
-
-pub content_take : (x : List ℕ) (pieces : List Piece) (n : ℕ) (piece : Piece) → slice_get pieces n ≡ Some piece
-    → content_of x (take (n + 1) pieces) ≡ content_of x (take n pieces) ++ slice_of x piece
-content_take x pieces n piece is = ap (content_of x) (one_taken pieces n piece is) ∙ content_push x (take n pieces) piece
-
-pub size_take : (pieces : List Piece) (n : ℕ) (piece : Piece) → slice_get pieces n ≡ Some piece → size_of (take (n + 1) pieces) ≡ size_of (take n pieces) + piece.len
-size_take pieces n piece is = ap size_of (one_taken pieces n piece is) ∙ size_push (take n pieces) piece
-
-none_left : (pieces : List Piece) (n : ℕ) → slice_get pieces n ≡ None → length pieces ≤ n
-none_left [] n is = omega arith
-none_left (first ∷ pieces) zero is = cc
-none_left (first ∷ pieces) (suc n) is = omega (arith, none_left pieces n is)
-
--- where there is none more, these are all
-pub take_none_left : (pieces : List Piece) (n : ℕ) → slice_get pieces n ≡ None → take n pieces ≡ pieces
-take_none_left pieces n is = take_all n pieces (none_left pieces n is)

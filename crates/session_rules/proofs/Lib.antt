@@ -1,4 +1,5 @@
 pub mod Arguments
 pub mod Blocks
+mod Choices
 pub mod Turns
 pub mod Uploads

@@ -1,5 +1,6 @@
 -- A connection goes on by more requests.
 use Rattle.std.proofs.Common.{◌≡◌, ℕ, suc, ◌+◌, List, [], ◌∷◌, ◌++◌, length, refl, sym, ◌∙◌, ap, append_assoc, arith}
+use Rattle.std.proofs.Math.Nat.{add-zero}
 use Rattle.fh_model.specs.History.{state_after}
 use Rattle.fh_model.specs.State.{State}
 use Rattle.fh_model.proofs.Runs.{state_after-append}
@@ -15,16 +16,13 @@ gained-append desk s (u ∷ turns) more =
     ∙ sym (append_assoc (gained_in desk s u) (gained desk next turns) (gained desk (state_after next (gained desk next turns)) more))
     ∙ ap (λ z. (gained_in desk s u ++ gained desk next turns) ++ gained desk z more) (sym (state_after-append s (gained_in desk s u) (gained desk next turns)))
 
-none_on : (n : ℕ) → n ≡ n + 0
-none_on n = omega arith
-
 one_on : (n k : ℕ) → n + 1 + k ≡ n + suc k
 one_on n k = omega arith
 
 -- and what they add to the texts
 pub texts-append : (desk : Desk) (s : State) (n : ℕ) (turns more : List Turn)
     → texts desk s n (turns ++ more) ≡ texts desk s n turns ++ texts desk (state_after s (gained desk s turns)) (n + length turns) more
-texts-append desk s n [] more = ap (λ k. texts desk s k more) (none_on n)
+texts-append desk s n [] more = ap (λ k. texts desk s k more) (sym (add-zero n))
 texts-append desk s n (u ∷ turns) more =
     let next = state_after s (gained_in desk s u) in
     ap (λ l. text_in desk s n u ++ l) (texts-append desk next (n + 1) turns more)

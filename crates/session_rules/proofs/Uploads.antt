@@ -1,17 +1,10 @@
 -- What an upload comes to by its content.
-use Rattle.std.proofs.Common.{◌≡◌, ℕ, ◌<◌, ◌≤◌, Bool, true, false, if◌then◌else◌, List, length, Option, nat_lt, refl, ◌∙◌, lt-ltb, le-ltb}
+use Rattle.std.proofs.Common.{◌≡◌, ℕ, ◌<◌, ◌≤◌, true, false, List, length, Option, nat_lt, ◌∙◌, lt-ltb, le-ltb}
 use Rattle.fh_model.specs.declared.commands.Commit.{Commit}
 use Rattle.fh_model.specs.declared.pieces.Bytes32.{Bytes32}
-use Rattle.session_rules.specs.Decisions.{Decision, says, enters, is_announced, upload_act, uploads}
+use Rattle.session_rules.specs.Decisions.{says, enters, is_announced, upload_act, uploads}
 use Rattle.session_rules.specs.Replies.{answered, mismatch_answer, too_large_answer}
-
-chosen : (test : Bool) (some other : Decision) → test ≡ true → (if test then some else other) ≡ some
-chosen true some other is = refl
-chosen false some other is = absurd (cc)
-
-passed : (test : Bool) (some other : Decision) → test ≡ false → (if test then some else other) ≡ other
-passed true some other is = absurd (cc)
-passed false some other is = refl
+use Rattle.session_rules.proofs.Choices.{chosen, passed}
 
 pub uploads_large : (user : ℕ) (commit : Commit) (hash : Option Bytes32) (content : List ℕ) → 4194304 < length content
     → uploads user commit hash content ≡ says (answered too_large_answer)

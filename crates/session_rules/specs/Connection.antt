@@ -42,6 +42,10 @@ pub record Turn : Type 0 where
   pub kind : Kind
   pub sent : List ℕ
 
+-- nobody else let a command enter from the request before it until its reply was at hand
+abbrev pub IsAlone : Turn → Type 0
+IsAlone turn = (turn.others ≡ []) × (turn.between ≡ []) × (turn.after ≡ [])
+
 -- the text before its reply, which comes where its sender waits for it
 abbrev pub interim_if : Bool → List ℕ
 interim_if waiting = if waiting then interim_text else []

@@ -23,8 +23,9 @@ use fh_model::{BLOCK_BYTES, Cmd, NoMemory, Piece, Reply};
 use fh_world::Disk;
 use gate_journal::{AppendFault, Journal, Record, frame};
 use name_core::Image;
-use std::alloc::Global;
+use std::alloc::{AllocError, Global};
 use std::marker::Model;
+use std::mem::replace;
 
 /// A store over the disk that it owns. Contracts see the disk, the image, and the command that waits: the one that a
 /// fault stopped while it was let in, so that it may or may not be on the disk.
@@ -35,6 +36,9 @@ pub struct Store<D: Disk> {
     journal: Journal,
     image: Image,
     waiting: Option<Cmd>,
+
+    /// The room of the next block that is fetched: that of one that was given back, or none.
+    spare: Vec<u8>,
 }
 
 impl<D: Disk> Model for Store<D> {
@@ -70,6 +74,7 @@ impl<D: Disk> Store<D> {
                 journal,
                 image,
                 waiting: None,
+                spare: Vec::new(alloc),
             }),
             Err(fault) => Err((disk, fault)),
         }
@@ -141,7 +146,7 @@ impl<D: Disk> Store<D> {
     {
         let (cmd, piece) = placed;
         let (next, reply) = self.image.apply(&cmd)?;
-        if next.history().len() == self.image.history().len() {
+        if next.kept() == self.image.kept() {
             return Ok(reply);
         }
         let framed = framed_command(self.alloc, &cmd)?;
@@ -209,9 +214,17 @@ impl<D: Disk> Store<D> {
         ensures cause { IsErrOf result FetchFault.Disk → Rose (D.faults self.old.disk) (D.faults self.new.disk) }
     {
         let piece = piece_at(&self.image, rev, block)?;
-        let mut bytes = vec![in self.alloc; 0u8; piece.len as usize]?;
+        let spare = replace(&mut self.spare, Vec::new(self.alloc));
+        let mut bytes = room_of(self.alloc, piece.len as usize, spare)?;
         get(&mut self.disk, &piece, &mut bytes)?;
         Ok(bytes)
+    }
+
+    /// Takes the bytes of a block back, so that the next one is fetched into their room. The store stays as it is.
+    pub fn give_back(&mut self, bytes: Vec<u8>)
+        ensures { self.new ≡ self.old }
+    {
+        self.spare = bytes;
     }
 
     /// Whether a command waits.
@@ -253,6 +266,20 @@ fn piece_at(image: &Image, rev: u64, block: u32) -> Result<Piece, FetchFault>
         Some(piece) => Ok(*piece),
         None => Err(FetchFault::NoBlock),
     }
+}
+
+/// A buffer of so many bytes. That of another one is used again where it is as large: to fill a new one with zeros takes
+/// a third of the time that it takes to read a block into it.
+fn room_of(alloc: Global, len: usize, spare: Vec<u8>) -> Result<Vec<u8>, AllocError>
+    ensures { IfOk result (λ bytes. length bytes.items ≡ len) }
+{
+    if spare.capacity() < len {
+        drop(spare);
+        return vec![in alloc; 0u8; len];
+    }
+    let mut bytes = spare;
+    bytes.resize(len, 0)?;
+    Ok(bytes)
 }
 
 /// The record of a command.

@@ -180,7 +180,12 @@ fn run_uploads(alloc: Global, disk: FuseDisk<MemDisk>) -> Option<(usize, FuseDis
 /// Whether the version is there with these bytes.
 fn has<D: Disk>(store: &mut Store<D>, rev: u64, bytes: &[u8]) -> bool {
     match store.fetch(rev, 0) {
-        Ok(found) => found.as_slice() == bytes,
+        Ok(found) => {
+            let same = found.as_slice() == bytes;
+            // So that the next one is fetched into its room.
+            store.give_back(found);
+            same
+        }
         Err(FetchFault::NoBlock) => bytes.is_empty(),
         Err(_) => false,
     }

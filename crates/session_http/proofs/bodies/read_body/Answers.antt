@@ -1,6 +1,6 @@
-use Rattle.std.proofs.Common.{ℕ, [], ◌++◌, List, refl, ◌∙◌, take, arith}
+use Rattle.std.proofs.Common.{ℕ, [], ◌++◌, List, refl, ◌∙◌, take, arith, vec_capacity}
 use Rattle.http_in.proofs.ReadingFacts.{place_inside, content_none, content_more, read_done, read_cut, read_bad, read_large, read_fault, read_memory, read_none}
-use Rattle.session_http.proofs.Kept.{few_none, holds_gone, holds_whole}
+use Rattle.session_http.proofs.Kept.{few_none, gone_on, gone_unkept, gone_whole, holds_gone, holds_whole}
 use Rattle.session_http.proofs.bodies.read_body.Goals as goal
 use Rattle.session_http.proofs.bodies.read_body.Goals.{then-keeps, else-keeps}
 
@@ -15,7 +15,12 @@ portions-init g c =
           | then-keeps w ↦ holds_whole c.if-keeps.body c.args.buffer.now.items w.body-is c.requires.empty
           | else-keeps w ↦ holds_gone c.if-keeps.body c.args.buffer.now.items w.body-is
         ];
+        gone = elim c.if-keeps.branch [
+          | then-keeps w ↦ gone_whole c.args.keeps (vec_capacity c.args.buffer.now) c.if-keeps.body w.body-is
+          | else-keeps w ↦ gone_unkept c.args.keeps (vec_capacity c.args.buffer.now) c.if-keeps.body w.body-is w.if-keeps.false
+        ];
       };
+      room = omega arith;
       few = few_none c.args.buffer.now.items c.requires.empty;
       place = refl;
       later = omega arith;
@@ -32,7 +37,10 @@ portions-preserved g c =
             c.portions.reader.held c.body.new.self.held c.args.reader.now.state c.portions.reader.state c.body.new.self.state
             [] so.content (so.content ++ more) c.body.new.buf c.in-Bytes.count so.so_far c.in-Bytes.ensures.step refl;
         holds = c.keep-body.ensures.more so.content so.holds;
+        gone = gone_on c.args.keeps (vec_capacity c.args.buffer.now) (vec_capacity c.portions.buffer) c.portions.body c.keep-body.result c.portions.buffer.items
+            so.content more c.portions.invariant.room so.holds so.gone c.keep-body.ensures.loses;
       };
+      room = omega (arith, c.portions.invariant.room, c.keep-body.ensures.room);
       few = c.keep-body.ensures.few;
       place = c.body.ensures.place ∙ c.portions.invariant.place;
       later = omega (arith, c.portions.invariant.later, c.body.ensures.later);
@@ -47,6 +55,7 @@ returns-in-Done-clause-read g c =
           c.portions.reader.held c.body.new.self.held c.args.reader.now.state c.portions.reader.state c.body.new.self.state
           [] so.content so.so_far c.body.new.buf c.in-Done.ensures.step;
       holds = so.holds;
+      gone = so.gone;
     }
 
 pub returns-in-Cut-clause-read : goal.returns-in-Cut-clause-read
@@ -58,6 +67,7 @@ returns-in-Cut-clause-read g c =
           c.portions.reader.held c.body.new.self.held c.args.reader.now.state c.portions.reader.state c.body.new.self.state
           [] so.content so.so_far c.body.new.buf c.in-Cut.ensures.step;
       holds = so.holds;
+      gone = so.gone;
     }
 
 pub returns-in-Bad-clause-read : goal.returns-in-Bad-clause-read
@@ -69,6 +79,7 @@ returns-in-Bad-clause-read g c =
           c.portions.reader.held c.body.new.self.held c.args.reader.now.state c.portions.reader.state c.body.new.self.state
           [] so.content so.so_far c.body.new.buf c.in-Bad.ensures.step;
       holds = so.holds;
+      gone = so.gone;
     }
 
 pub returns-in-TooLarge-clause-read : goal.returns-in-TooLarge-clause-read
@@ -80,6 +91,7 @@ returns-in-TooLarge-clause-read g c =
           c.portions.reader.held c.body.new.self.held c.args.reader.now.state c.portions.reader.state c.body.new.self.state
           [] so.content so.so_far c.body.new.buf c.in-TooLarge.ensures.step;
       holds = so.holds;
+      gone = so.gone;
     }
 
 pub returns-in-ReadFault-clause-read : goal.returns-in-ReadFault-clause-read
@@ -91,6 +103,7 @@ returns-in-ReadFault-clause-read g c =
           c.portions.reader.held c.body.new.self.held c.args.reader.now.state c.portions.reader.state c.body.new.self.state
           [] so.content so.so_far c.body.new.buf c.in-ReadFault.ensures.step;
       holds = so.holds;
+      gone = so.gone;
     }
 
 pub returns-in-NoMemory-clause-read : goal.returns-in-NoMemory-clause-read
@@ -102,6 +115,7 @@ returns-in-NoMemory-clause-read g c =
           c.portions.reader.held c.body.new.self.held c.args.reader.now.state c.portions.reader.state c.body.new.self.state
           [] so.content so.so_far c.body.new.buf c.in-NoMemory.ensures.step;
       holds = so.holds;
+      gone = so.gone;
     }
 
 pub returns-clause-read : goal.returns-clause-read
@@ -112,4 +126,5 @@ returns-clause-read g c =
       read = read_none g.S.Source.given g.S.Source.left c.args.source.now c.portions.source c.args.reader.now.held c.portions.reader.held
           c.args.reader.now.state c.portions.reader.state [] so.content so.so_far;
       holds = so.holds;
+      gone = so.gone;
     }

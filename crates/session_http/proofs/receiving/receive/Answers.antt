@@ -1,9 +1,10 @@
-use Rattle.std.proofs.Common.{◌++◌}
+use Rattle.std.proofs.Common.{◌≡◌, ℕ, ◌++◌, ◌∙◌, ap, subst, vec_capacity}
 use Rattle.session_rules.specs.Connection.{interim_of}
 use Rattle.session_rules.specs.Replies.{bad_request, body_too_large}
+use Rattle.session_http.specs.Bodies.{GoneOnlyFor}
 use Rattle.session_http.specs.Points.{called_if}
 use Rattle.session_http.specs.Talk.{moment, terms}
-use Rattle.session_http.proofs.Heard.{hears, passes_body, refused_bad, refused_large, stops_cut, stops_memory, stops_read}
+use Rattle.session_http.proofs.Heard.{hears_all, passes_body, refused_bad, refused_large, stops_cut, stops_memory, stops_read}
 use Rattle.session_http.proofs.Receives.{beside, stops_said, written}
 use Rattle.session_http.proofs.receiving.receive.Goals as goal
 
@@ -20,9 +21,13 @@ returns-in-Done-clause-ok g c =
     let read = body.read in
     let by = beside P S K (g.C.Clock.second c.args.clock.now) c.args.admin.now begun.answered c.read_head.new.port begun.source c.read_body-end.new.source begun.sink
     begun.reader.held c.read_body-end.new.reader.held c.read_body-end.ensures.later in
-    hears t old mid now (called_if c.in-Ok.opened.call) c.in-Ok.opened.head c.in-Ok.ensures.ok begun.reader.state c.in-Ok.ensures.inside
+    let room : vec_capacity c.clear.new.self ≡ vec_capacity conn.buffer = c.clear.ensures.capacity ∙ ap vec_capacity c.read_head.ensures.buffer in
+    let gone : GoneOnlyFor c.keeps.result (vec_capacity conn.buffer) c.read_body-end.result.1 body.content =
+    subst (λ (n : ℕ). GoneOnlyFor c.keeps.result n c.read_body-end.result.1 body.content) room body.gone in
+    hears_all t old mid now (called_if c.in-Ok.opened.call) c.in-Ok.opened.head c.in-Ok.ensures.ok begun.reader.state c.in-Ok.ensures.inside
     read.place read.inside read.fresh read.added body.content read.moves.gave read.moves.took by read.gained
-    c.read_body-end.result.1 c.read_body-end.new.buffer.items body.holds (rw c.in-Done.is at read.came)
+    c.keeps.result (vec_capacity conn.buffer) c.read_body-end.result.1 c.read_body-end.new.buffer.items body.holds gone c.keeps.ensures
+    (rw c.in-Done.is at read.came)
 
 pub returns-in-Cut-clause-err : goal.returns-in-Cut-clause-err
 returns-in-Cut-clause-err g c =

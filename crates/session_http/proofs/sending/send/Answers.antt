@@ -6,7 +6,8 @@ pub returns-in-Err-clause-err : goal.returns-in-Err-clause-err
 returns-in-Err-clause-err g c =
     let P = g.P.View in let K = g.K.Sink in
     let port = c.args.port.now in
-    λ meta is. breaks_head K.held K.faults P.alone (P.seen port) (P.blocks port) c.args.sink.now c.write.new.sink c.args.head.now meta.pieces c.in-Err.ensures.err
+    λ meta is. breaks_head K.held K.faults P.alone (P.seen port) (P.blocks port) c.args.sink.now c.write.new.sink c.args.head.now meta.pieces
+    c.in-Err.end c.in-Err.ensures.end c.in-Err.ensures.err
 
 pub pieces-init : goal.pieces-init
 pieces-init g c =
@@ -37,6 +38,7 @@ returns-in-Err-fetch-clause-err g c =
     let new = c.fetch.new.port in
     λ meta is. breaks_fetch K.held P.alone (P.seen old) (P.seen mid) (P.seen new) (P.blocks old) (P.blocks mid) (P.blocks new) c.args.sink.now c.pieces.sink c.args.head.now
     meta c.args.rev c.args.count c.pieces.block is (c.pieces.invariant.sends meta is) c.fetch.ensures.point c.fetch.ensures.below
+    c.in-Err-fetch.end c.pieces-test.true
 
 pub returns-in-Err-write-clause-err : goal.returns-in-Err-write-clause-err
 returns-in-Err-write-clause-err g c =
@@ -47,7 +49,7 @@ returns-in-Err-write-clause-err g c =
     let broken = rw c.deref.ensures.value at c.in-Err-write.ensures.err in
     λ meta is. breaks_write K.held P.alone (P.seen old) (P.seen mid) (P.seen new) (P.blocks old) (P.blocks mid) (P.blocks new) c.args.sink.now c.pieces.sink c.args.head.now
     meta c.args.rev c.args.count c.pieces.block is (c.pieces.invariant.sends meta is) c.fetch.ensures.point c.fetch.ensures.below
-    c.write-in-pieces.new.sink c.in-Ok-fetch.bytes.items c.in-Ok-fetch.ensures.bytes K.faults broken
+    c.write-in-pieces.new.sink c.in-Ok-fetch.bytes.items c.in-Ok-fetch.ensures.bytes K.faults c.in-Err-write.end c.in-Err-write.ensures.end broken
 
 pub pieces-preserved : goal.pieces-preserved
 pieces-preserved g c =
@@ -57,7 +59,7 @@ pieces-preserved g c =
     let new = c.fetch.new.port in
     let so = c.pieces.invariant in
     let wrote = rw c.deref.ensures.value at c.in-Ok-write.ensures.ok in
-    record {
+    rw c.give_back.ensures (record {
       sends = λ meta is. sends_on K.held P.alone (P.seen old) (P.seen mid) (P.seen new) (P.blocks old) (P.blocks mid) (P.blocks new) c.args.sink.now c.pieces.sink c.args.head.now
           meta c.args.rev c.args.count c.pieces.block is (so.sends meta is) c.fetch.ensures.point c.fetch.ensures.below
           c.write-in-pieces.new.sink c.in-Ok-fetch.bytes.items c.in-Ok-fetch.ensures.bytes wrote;
@@ -67,4 +69,4 @@ pieces-preserved g c =
       went = g.met.P.View.on old mid new so.went c.fetch.ensures.went;
       place = c.write-in-pieces.ensures.place ∙ so.place;
       later = omega (arith, so.later, c.write-in-pieces.ensures.later);
-    }
+    })

@@ -35,7 +35,7 @@ returns-in-Ok-write-clause-ok g c =
     let mid = moment P S K c.receive.new.port read.source read.sink read.answered read.reader.held in
     let arg = option_map (λ bytes. bytes.items) heard.arg in
     let kept = read.buffer.items in
-    let h = rw c.in-Err-call.is at c.in-Ok.ensures.ok in
+    let h = rw c.in-Err-call.is at c.in-Ok.ensures.ok.hears in
     let close = c.is_last-close.result in
     let now = moment P S K c.receive.new.port read.source c.write.new.sink (read.answered + 1) read.reader.held in
     let text = text_of out_of_memory close in
@@ -64,7 +64,7 @@ returns-in-Err-write-clause-err g c =
     let mid = moment P S K c.receive.new.port read.source read.sink read.answered read.reader.held in
     let arg = option_map (λ bytes. bytes.items) heard.arg in
     let kept = read.buffer.items in
-    let h = rw c.in-Err-call.is at c.in-Ok.ensures.ok in
+    let h = rw c.in-Err-call.is at c.in-Ok.ensures.ok.hears in
     let close = c.is_last-close.result in
     let now = moment P S K c.receive.new.port read.source c.write.new.sink (read.answered + 1) read.reader.held in
     let text = text_of out_of_memory close in
@@ -96,7 +96,7 @@ returns-in-Ok-write-2-clause-ok g c =
     let mid = moment P S K c.receive.new.port read.source read.sink read.answered read.reader.held in
     let arg = option_map (λ bytes. bytes.items) heard.arg in
     let kept = read.buffer.items in
-    let h = rw c.in-Ok-call.is at c.in-Ok.ensures.ok in
+    let h = rw c.in-Ok-call.is at c.in-Ok.ensures.ok.hears in
     let close = c.is_last-close.result in
     let now = moment P S K c.respond.new.port read.source c.write-in-Ok-Text.new.sink (read.answered + 1) read.reader.held in
     let text = c.in-Ok-Text.text.items in
@@ -128,7 +128,7 @@ returns-in-Ok-Text-clause-err g c =
     let mid = moment P S K c.receive.new.port read.source read.sink read.answered read.reader.held in
     let arg = option_map (λ bytes. bytes.items) heard.arg in
     let kept = read.buffer.items in
-    let h = rw c.in-Ok-call.is at c.in-Ok.ensures.ok in
+    let h = rw c.in-Ok-call.is at c.in-Ok.ensures.ok.hears in
     let close = c.is_last-close.result in
     let now = moment P S K c.respond.new.port read.source c.write-in-Ok-Text.new.sink (read.answered + 1) read.reader.held in
     let text = c.in-Ok-Text.text.items in
@@ -163,7 +163,7 @@ returns-in-Ok-send-clause-ok g c =
     let mid = moment P S K c.receive.new.port read.source read.sink read.answered read.reader.held in
     let arg = option_map (λ bytes. bytes.items) heard.arg in
     let kept = read.buffer.items in
-    let h = rw c.in-Ok-call.is at c.in-Ok.ensures.ok in
+    let h = rw c.in-Ok-call.is at c.in-Ok.ensures.ok.hears in
     let close = c.is_last-close.result in
     let seen = P.seen c.respond.new.port in
     let blocks = P.blocks c.respond.new.port in
@@ -188,7 +188,7 @@ returns-in-Ok-send-clause-ok g c =
     let sends = rw c.deref-in-Ok-Content.ensures.value at c.in-Ok-send.ensures.ok found.0.meta version in
     let tells = content_as t old mid now it heard.last arg heard.body kept h heard.at close head c.in-Ok-Content.rev c.in-Ok-Content.count seen blocks found.0 found.1
     told sent_told sends.sent sends.fetches (pieces_lie (state_of seen) found.0.meta found.0.kept) c.in-Ok.ensures.timed closes in
-    goes_by t old mid now (Some it) heard.last arg heard.body kept h stays (head ++ sends.sent) (as_whole t old now h.asked (head ++ sends.sent) tells) sends.wrote (not heard.last) refl
+    goes_by t old mid now (Some it) heard.last arg heard.body kept h stays (head ++ sends.sent) (as_whole t old now h.asked (head ++ sends.sent) found.0.meta tells) sends.wrote (not heard.last) refl
 
 pub returns-in-Ok-Content-clause-err : goal.returns-in-Ok-Content-clause-err
 returns-in-Ok-Content-clause-err g c =
@@ -201,7 +201,7 @@ returns-in-Ok-Content-clause-err g c =
     let mid = moment P S K c.receive.new.port read.source read.sink read.answered read.reader.held in
     let arg = option_map (λ bytes. bytes.items) heard.arg in
     let kept = read.buffer.items in
-    let h = rw c.in-Ok-call.is at c.in-Ok.ensures.ok in
+    let h = rw c.in-Ok-call.is at c.in-Ok.ensures.ok.hears in
     let close = c.is_last-close.result in
     let seen = P.seen c.respond.new.port in
     let blocks = P.blocks c.respond.new.port in
@@ -227,8 +227,8 @@ returns-in-Ok-Content-clause-err g c =
     let kind = broken_off breaks.count in
     let tells = content_as t old mid now it heard.last arg heard.body kept h heard.at close head c.in-Ok-Content.rev c.in-Ok-Content.count seen blocks found.0 found.1
     kind (sent_off breaks.count) breaks.sent breaks.fetches (first_lie (state_of seen) found.0.meta breaks.count found.0.kept) c.in-Ok.ensures.timed closes in
-    broken_off_by t old mid now (Some it) heard.last arg heard.body kept h stays (head ++ breaks.sent) tells.tells breaks.count tells.kind_is breaks.part breaks.some breaks.wrote
-    c.requires.few c.in-Err-send.end
+    broken_off_by t old mid now (Some it) heard.last arg heard.body kept h stays (head ++ breaks.sent) tells.tells breaks.count tells.kind_is
+    found.0.meta tells.asks breaks.part breaks.some breaks.wrote c.requires.few c.in-Err-send.end breaks.fewer
     (cause_since c.in-Err-send.end (P.faults c.receive.new.port) (P.faults c.respond.new.port) (P.faults c.send.new.port) (K.faults read.sink) (K.faults c.send.new.sink)
     c.in-Ok-Content.ensures.later c.in-Err-send.ensures.end)
 
@@ -243,7 +243,7 @@ returns-in-Ok-write-3-clause-ok g c =
     let mid = moment P S K c.receive.new.port read.source read.sink read.answered read.reader.held in
     let arg = option_map (λ bytes. bytes.items) heard.arg in
     let kept = read.buffer.items in
-    let h = rw c.in-Ok-call.is at c.in-Ok.ensures.ok in
+    let h = rw c.in-Ok-call.is at c.in-Ok.ensures.ok.hears in
     let close = c.is_last-close.result in
     let now = moment P S K c.respond.new.port read.source c.write-in-Err-NoMemory.new.sink (read.answered + 1) read.reader.held in
     let text = text_of out_of_memory close in
@@ -274,7 +274,7 @@ returns-in-Err-NoMemory-clause-err g c =
     let mid = moment P S K c.receive.new.port read.source read.sink read.answered read.reader.held in
     let arg = option_map (λ bytes. bytes.items) heard.arg in
     let kept = read.buffer.items in
-    let h = rw c.in-Ok-call.is at c.in-Ok.ensures.ok in
+    let h = rw c.in-Ok-call.is at c.in-Ok.ensures.ok.hears in
     let close = c.is_last-close.result in
     let now = moment P S K c.respond.new.port read.source c.write-in-Err-NoMemory.new.sink (read.answered + 1) read.reader.held in
     let text = text_of out_of_memory close in
@@ -308,7 +308,7 @@ returns-clause-err g c =
     let mid = moment P S K c.receive.new.port read.source read.sink read.answered read.reader.held in
     let arg = option_map (λ bytes. bytes.items) heard.arg in
     let kept = read.buffer.items in
-    let h = rw c.in-Ok-call.is at c.in-Ok.ensures.ok in
+    let h = rw c.in-Ok-call.is at c.in-Ok.ensures.ok.hears in
     let now = moment P S K c.respond.new.port read.source read.sink (read.answered + 1) read.reader.held in
     let disk = rw c.as_deref.ensures.value at (rw c.as_slice.ensures.value at c.in-Err-Disk.ensures.disk) in
     let failed = disk h.asked.content h.holds (ap Err c.in-Err-Disk.field-0-is) in

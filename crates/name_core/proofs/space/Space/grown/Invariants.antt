@@ -2,4 +2,4 @@ use Rattle.std.proofs.Common.{◌≡◌, ◌++◌, take}
 use Rattle.name_core.proofs.space.Space.grown.Given as goal
 
 abbrev pub invariant-loop-change : goal.invariant-loop-change
-invariant-loop-change l = l.namespace ≡ record l.self { changes = l.self.changes ++ take l.change-index l.changes }
+invariant-loop-change l = l.all.items ≡ l.self.changes ++ take l.change-index l.changes

@@ -16,9 +16,9 @@ returns-in_err-piece-clause-any_moment g c =
     rw (← c.self.view_is) (λ told. still_run g.D.Disk at.disk at.journal at.image at.waiting c.self.invariant g.met.D.Disk.only_now told)
 
 pub returns-in_err-bytes-clause-kept : goal.returns-in_err-bytes-clause-kept
-returns-in_err-bytes-clause-kept g c =
+returns-in_err-bytes-clause-kept g c = λ told.
     let at = c.self.inside in
-    rw (← c.self.view_is) (λ told. sound_kept g.D.Disk at.disk at.journal at.image at.waiting told c.self.invariant)
+    sound_kept g.D.Disk at.disk at.journal at.image at.waiting told c.self.invariant
 
 pub returns-in_err-bytes-clause-any_moment : goal.returns-in_err-bytes-clause-any_moment
 returns-in_err-bytes-clause-any_moment g c =
@@ -53,5 +53,10 @@ returns-clause-any_moment g c =
 
 pub invariant_of-self-2 : goal.invariant_of-self-2
 invariant_of-self-2 g c =
+    let at = c.self.inside in
+    sound_rests g.D.Disk at.disk c.get.new.disk c.get.ensures.rests at.journal at.image at.waiting c.self.invariant
+
+pub invariant_of-self-in_err-get : goal.invariant_of-self-in_err-get
+invariant_of-self-in_err-get g c =
     let at = c.self.inside in
     sound_rests g.D.Disk at.disk c.get.new.disk c.get.ensures.rests at.journal at.image at.waiting c.self.invariant

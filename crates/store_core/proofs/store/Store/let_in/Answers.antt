@@ -16,11 +16,11 @@ returns-in_err-next-clause-unwritten g c =
     let p = err_from_is_err_and c.from_residual.result c.from_residual.ensures.1 in
     rw p.1 (rw (← c.self.view_is) (λ idle told. still_run g.D.Disk c.self.inside.disk c.self.inside.journal c.self.inside.image c.self.inside.waiting c.self.invariant g.met.D.Disk.only_now told))
 
-pub returns-then-history-clause-kept : goal.returns-then-history-clause-kept
-returns-then-history-clause-kept g c = rw (← c.self.view_is) (λ told. sound_kept g.D.Disk c.self.inside.disk c.self.inside.journal c.self.inside.image c.self.inside.waiting told c.self.invariant)
+pub returns-then-kept-clause-kept : goal.returns-then-kept-clause-kept
+returns-then-kept-clause-kept g c = rw (← c.self.view_is) (λ told. sound_kept g.D.Disk c.self.inside.disk c.self.inside.journal c.self.inside.image c.self.inside.waiting told c.self.invariant)
 
-pub returns-then-history-clause-any_moment : goal.returns-then-history-clause-any_moment
-returns-then-history-clause-any_moment g c = rw (← c.self.view_is) (no_run g.D.Disk c.self.inside.disk c.self.inside.journal c.self.inside.image c.self.inside.waiting c.self.invariant g.met.D.Disk.only_now _)
+pub returns-then-kept-clause-any_moment : goal.returns-then-kept-clause-any_moment
+returns-then-kept-clause-any_moment g c = rw (← c.self.view_is) (no_run g.D.Disk c.self.inside.disk c.self.inside.journal c.self.inside.image c.self.inside.waiting c.self.invariant g.met.D.Disk.only_now _)
 
 pub returns-in_err-framed-clause-kept : goal.returns-in_err-framed-clause-kept
 returns-in_err-framed-clause-kept g c = rw (← c.self.view_is) (λ told. sound_kept g.D.Disk c.self.inside.disk c.self.inside.journal c.self.inside.image c.self.inside.waiting told c.self.invariant)
