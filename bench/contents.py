@@ -12,13 +12,12 @@ Uploads a second: new files of 5 and of 4,096 bytes, on one connection, all requ
 into a new store. Each reply is written once its upload is durable, before the next request is looked at, so the syncs are
 done one after another as if the client waited for each reply. Beside it is a plain loop of the same writes of the
 same sizes: the data behind the end of one file, fdatasync; the record behind the gate in a second file, fdatasync; the
-gate, fdatasync. As a commit copies a pointer for each item of the machine's lists and looks at each name of the tree, the rate
-falls as the store grows; so there is a row for a store that grows from none to 100 files, and one to 1,000.
+gate, fdatasync. As a commit copies a pointer for each item of the tree, the rate may fall as the store grows; so there is a
+row for a store that grows from none to 100 files, and one to 1,000.
 
 Megabytes a second: files of 4 MiB, on one connection likewise. Beside uploads stands the time of the kit's SHA-256
 alone for as many bytes, by content_hash_bench, and that of a plain loop of write and fdatasync for each file, together. An
-upload that names its content hash is hashed twice, by the rules and by the store, and has a row of its own, which counts
-for nothing. Downloads go to /dev/null, as what a plain loop reads does.
+upload that names its content hash is hashed once as well, and has a row of its own, which counts for nothing. Downloads go to /dev/null, as what a plain loop reads does.
 
 Wanted are 0.8 for the uploads a second and 0.7 for megabytes; the status is 1 where a row is below that, or where a reply
 isn't the one that is wanted.

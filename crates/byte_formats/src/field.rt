@@ -1,4 +1,4 @@
-ghost use Rattle.std.specs.Prelude.{◌≡◌, ◌↔◌, ◌++◌, ◌∷◌, [], ℕ, List, IsTrue, OnOk};
+ghost use Rattle.std.specs.Prelude.{◌≡◌, ◌↔◌, ◌++◌, ◌∷◌, [], ℕ, Bool, List, IsTrue, IsErrOf, OnOk};
 ghost use Rattle.byte_formats.specs.Formats.{Reading};
 ghost use Rattle.byte_formats.specs.Given.{Gives};
 
@@ -20,9 +20,14 @@ pub trait Field: Sized + Drop {
     /// Where every length in it fits into a `u32`.
     ghost is_short: { Self → Type 0 };
 
+    /// Whether a read asks for memory.
+    ghost asks_memory: { Bool };
+
     /// Takes the field from the front of the bytes, and gives it with the bytes after it.
     fn read(alloc: Global, bytes: &[u8]) -> Result<(Self, &[u8]), Stop>
-        ensures { Gives (λ x. (x.0, x.1.now)) result (reads bytes.now) };
+        ensures given { Gives (λ x. (x.0, x.1.now)) result (reads bytes.now) }
+        // Bad bytes are never told as want of memory by a read that asks for none.
+        ensures memory { IsErrOf result Stop.NoMemory → IsTrue asks_memory };
 
     /// Puts the spelling at the end.
     fn put(&self, out: &mut Vec<u8>) -> Result<(), NoMemory>

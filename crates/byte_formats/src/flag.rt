@@ -1,4 +1,4 @@
-ghost use Rattle.std.specs.Prelude.{⊤};
+ghost use Rattle.std.specs.Prelude.{⊤, false};
 ghost use Rattle.byte_formats.specs.Fields.{flag};
 
 use crate::{Field, Stop, put_byte};
@@ -13,6 +13,8 @@ impl Field for bool {
     ghost reads = { flag.read };
 
     ghost is_short = { λ _. ⊤ };
+
+    ghost asks_memory = { false };
 
     #[tactic(auto, unfolding(crate::specs::Fields::flag_at))]
     fn read(_alloc: Global, bytes: &[u8]) -> Result<(bool, &[u8]), Stop> {

@@ -1,4 +1,4 @@
-ghost use Rattle.std.specs.Prelude.{◌≡◌, ◌↔◌, ◌++◌, ◌<◌, ◌^◌, length, IsTrue, OnOk};
+ghost use Rattle.std.specs.Prelude.{◌≡◌, ◌↔◌, ◌++◌, ◌<◌, ◌^◌, true, length, IsTrue, OnOk};
 ghost use Rattle.std.specs.List.{flat_map, All, AllByRecursion};
 ghost use Rattle.byte_formats.specs.Formats.{times_at};
 ghost use Rattle.byte_formats.specs.Fields.{n32};
@@ -52,6 +52,8 @@ impl<T: Field> Field for Items<T> {
     ghost reads = { many_at T.reads };
 
     ghost is_short = { λ items. (length items < 2 ^ 32) × All T.is_short items };
+
+    ghost asks_memory = { true };
 
     fn read(alloc: Global, bytes: &[u8]) -> Result<(Items<T>, &[u8]), Stop> {
         let (count, rest) = u32::read(alloc, bytes)?;

@@ -1,4 +1,4 @@
-ghost use Rattle.std.specs.Prelude.{◌≡◌};
+ghost use Rattle.std.specs.Prelude.{◌≡◌, IsErrOf};
 ghost use Rattle.byte_formats.specs.Fields.{moment, optional, over_at};
 ghost use Rattle.byte_formats.specs.Given.{Gives};
 
@@ -30,7 +30,8 @@ fn over_at(limit: &[u8], bytes: &[u8]) -> Option<usize>
 /// Takes a moment in seconds from the front of the bytes: a number that is at most `LAST_SECOND`.
 #[tactic(auto, unfolding(crate::specs::Fields::moment_at))]
 pub fn moment_at(alloc: Global, bytes: &[u8]) -> Result<(u64, &[u8]), Stop>
-    ensures { Gives (λ x. (x.0, x.1.now)) result (moment.read bytes.now) }
+    ensures given { Gives (λ x. (x.0, x.1.now)) result (moment.read bytes.now) }
+    ensures memory { IsErrOf result Stop.NoMemory → ⊥ }
 {
     match over_at(&LAST_SECOND.to_be_bytes(), bytes) {
         Some(left) => Err(Stop::Bad(left)),
@@ -40,7 +41,8 @@ pub fn moment_at(alloc: Global, bytes: &[u8]) -> Result<(u64, &[u8]), Stop>
 
 /// Takes a moment that may be absent.
 pub fn optional_moment_at(alloc: Global, bytes: &[u8]) -> Result<(Option<u64>, &[u8]), Stop>
-    ensures { Gives (λ x. (x.0, x.1.now)) result ((optional moment).read bytes.now) }
+    ensures given { Gives (λ x. (x.0, x.1.now)) result ((optional moment).read bytes.now) }
+    ensures memory { IsErrOf result Stop.NoMemory → ⊥ }
 {
     match bytes {
         [] => Err(Stop::Bad(0)),

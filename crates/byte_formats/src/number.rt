@@ -1,4 +1,4 @@
-ghost use Rattle.std.specs.Prelude.{⊤};
+ghost use Rattle.std.specs.Prelude.{⊤, false};
 ghost use Rattle.byte_formats.specs.Fields.{n32, n64};
 
 use crate::{Field, Stop};
@@ -13,6 +13,8 @@ impl Field for u32 {
     ghost reads = { n32.read };
 
     ghost is_short = { λ _. ⊤ };
+
+    ghost asks_memory = { false };
 
     fn read(_alloc: Global, bytes: &[u8]) -> Result<(u32, &[u8]), Stop> {
         if bytes.len() < 4 {
@@ -43,6 +45,8 @@ impl Field for u64 {
     ghost reads = { n64.read };
 
     ghost is_short = { λ _. ⊤ };
+
+    ghost asks_memory = { false };
 
     fn read(_alloc: Global, bytes: &[u8]) -> Result<(u64, &[u8]), Stop> {
         if bytes.len() < 8 {

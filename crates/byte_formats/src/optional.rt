@@ -14,6 +14,8 @@ impl<T: Field> Field for Option<T> {
 
     ghost is_short = { λ field. IfSome field T.is_short };
 
+    ghost asks_memory = { T.asks_memory };
+
     fn read(alloc: Global, bytes: &[u8]) -> Result<(Option<T>, &[u8]), Stop> {
         match bytes {
             [] => Err(Stop::Bad(0)),

@@ -1,4 +1,4 @@
-ghost use Rattle.std.specs.Prelude.{◌≡◌, ◌↔◌, ◌<◌, ◌≤◌, ◌++◌, ⊤, IsTrue, OnOk, length};
+ghost use Rattle.std.specs.Prelude.{◌≡◌, ◌↔◌, ◌<◌, ◌≤◌, ◌++◌, ⊤, false, IsTrue, IsErrOf, OnOk, length};
 ghost use Rattle.byte_formats.specs.Fields.{IsBytes, octets};
 ghost use Rattle.byte_formats.specs.Formats.{byte_where_at};
 ghost use Rattle.byte_formats.specs.Given.{Gives};
@@ -12,7 +12,8 @@ use std::alloc::Global;
 
 /// Takes a byte of the range.
 fn byte_in(bytes: &[u8], least: u8, most: u8) -> Result<(u8, &[u8]), Stop>
-    ensures { Gives (λ x. (x.0, x.1.now)) result (byte_where_at (between least most) bytes.now) }
+    ensures given { Gives (λ x. (x.0, x.1.now)) result (byte_where_at (between least most) bytes.now) }
+    ensures memory { IsErrOf result Stop.NoMemory → ⊥ }
 {
     match bytes {
         [] => Err(Stop::Bad(0)),
@@ -46,7 +47,8 @@ fn least_behind(second: u8, third: u8) -> u8
 /// Takes the length of a piece: a number from 1 to `BLOCK_BYTES`.
 #[tactic(auto, unfolding(crate::specs::Pieces::piece_len))]
 fn len_at(bytes: &[u8]) -> Result<(u32, &[u8]), Stop>
-    ensures { Gives (λ x. (x.0, x.1.now)) result (piece_len.read bytes.now) }
+    ensures given { Gives (λ x. (x.0, x.1.now)) result (piece_len.read bytes.now) }
+    ensures memory { IsErrOf result Stop.NoMemory → ⊥ }
 {
     let (first, rest) = byte_in(bytes, 0, 0)?;
     let (second, rest) = byte_in(rest, 0, SECOND_MOST)?;
@@ -87,6 +89,8 @@ impl Field for Bytes32 {
 
     ghost is_short = { λ _. ⊤ };
 
+    ghost asks_memory = { false };
+
     fn read(_alloc: Global, bytes: &[u8]) -> Result<(Bytes32, &[u8]), Stop> {
         if bytes.len() < 32 {
             return Err(Stop::Bad(0));
@@ -115,6 +119,8 @@ impl Field for Piece {
     ghost reads = { piece_format.read };
 
     ghost is_short = { λ piece. (0 < piece.len) × (piece.len ≤ BLOCK_BYTES) };
+
+    ghost asks_memory = { false };
 
     #[tactic(auto, unfolding(crate::specs::Pieces::piece_format))]
     fn read(alloc: Global, bytes: &[u8]) -> Result<(Piece, &[u8]), Stop> {

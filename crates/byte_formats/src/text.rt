@@ -1,4 +1,4 @@
-ghost use Rattle.std.specs.Prelude.{◌≡◌, ◌<◌, ◌^◌, length};
+ghost use Rattle.std.specs.Prelude.{◌≡◌, ◌<◌, ◌^◌, true, length};
 ghost use Rattle.byte_formats.specs.Lists.{text};
 ghost use Rattle.byte_formats.specs.Texts.{allows, after, characters, characters_at, fault_of, is_lead};
 ghost use Rattle.byte_formats.specs.declared.text.Awaited.TheVariants.{Lead};
@@ -115,6 +115,8 @@ impl Field for Text {
     ghost reads = { text.read };
 
     ghost is_short = { λ text. length text < 2 ^ 32 };
+
+    ghost asks_memory = { true };
 
     fn read(alloc: Global, bytes: &[u8]) -> Result<(Text, &[u8]), Stop> {
         let (len, rest) = u32::read(alloc, bytes)?;

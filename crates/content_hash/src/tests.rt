@@ -1,4 +1,4 @@
-use crate::{Hasher, of_digests};
+use crate::{Hasher, of_block, of_digests};
 use fh_model::{BLOCK_BYTES, Bytes32};
 use std::alloc::{AllocError, Global};
 use std::test::*;
@@ -137,6 +137,27 @@ fn contents_about_the_size_of_a_block_have_their_hashes(rt: HostRuntime) -> Resu
             );
         }
     }
+    Ok(())
+}
+
+#[test]
+fn a_content_of_one_block_has_its_digest_and_its_hash(rt: HostRuntime) -> Result<(), Fail> {
+    let alloc = rt.alloc();
+    let (none, hash) = of_block(b"");
+    assert!(rt; none.is_none());
+    assert_eq!(rt; spelled(alloc, &hash)?.as_str(), NOTHING);
+    let (some, hash) = of_block(b"hello");
+    let Some(digest) = some else {
+        return Err("no digest".into());
+    };
+    assert_eq!(rt;
+        spelled(alloc, &digest)?.as_str(),
+        "2cf24dba5fb0a30e26e83b2ac5b9e29e1b161e5c1fa7425e73043362938b9824"
+    );
+    assert_eq!(rt;
+        spelled(alloc, &hash)?.as_str(),
+        "9595c9df90075148eb06860365df33584b75bff782a510c6cd4883a419833d50"
+    );
     Ok(())
 }
 

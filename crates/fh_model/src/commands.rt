@@ -1,3 +1,5 @@
+ghost use Rattle.std.specs.Prelude.{◌≡◌, Ok};
+
 use crate::{Copies, NoMemory, Piece, Text};
 
 /// How a commit treats a file that stands at its path.
@@ -58,7 +60,9 @@ pub struct Cmd {
 }
 
 impl Copies for Mode {
-    fn copy(&self) -> Result<Mode, NoMemory> {
+    fn copy(&self) -> Result<Mode, NoMemory>
+        ensures { result ≡ Ok self.now }
+    {
         Ok(*self)
     }
 }

@@ -1,4 +1,4 @@
-ghost use Rattle.std.specs.Prelude.{◌≡◌, ◌++◌, ◌∷◌, [], IfOk, OnOk, OnErr};
+ghost use Rattle.std.specs.Prelude.{◌≡◌, ◌++◌, ◌∷◌, [], Ok, IfOk, OnOk, OnErr};
 
 use crate::NoMemory;
 use std::alloc::Global;
@@ -79,8 +79,11 @@ impl<T: Copies> Copies for Items<T> {
     }
 }
 
+/// A plain value is copied without memory.
 impl Copies for u64 {
-    fn copy(&self) -> Result<u64, NoMemory> {
+    fn copy(&self) -> Result<u64, NoMemory>
+        ensures { result ≡ Ok self.now }
+    {
         Ok(*self)
     }
 }
@@ -89,7 +92,7 @@ impl Copies for u64 {
 pub fn copy_all<T: Copies>(alloc: Global, items: &[T]) -> Result<Vec<T>, NoMemory>
     ensures { IfOk result (λ copies. copies.items ≡ items.now) }
 {
-    let mut copies = Vec::new(alloc);
+    let mut copies = Vec::with_capacity(alloc, items.len())?;
     for item in items {
         let copy = item.copy()?;
         copies.push(copy)?;

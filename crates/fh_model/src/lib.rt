@@ -9,6 +9,7 @@ mod commands;
 mod files;
 mod items;
 mod keys;
+mod laws;
 mod limits;
 mod memory;
 mod names;
@@ -26,6 +27,7 @@ pub use commands::{Act, Cmd, Commit, Mode};
 pub use files::{FileMeta, Revision};
 pub use items::{Copies, Items, copy_all};
 pub use keys::Key;
+pub use laws::limits_are;
 pub use limits::{
     BLOCK_BYTES, ID_DIGITS, LAST_SECOND, NAME_MAX_BYTES, NAMES_MAX, NAMESPACE_MAX_DIGITS,
     PATH_MAX_BYTES, REQUESTS_MAX, REV_MIN_DIGITS, SPENT_AT, TOKEN_MAX_BYTES, TOKEN_MIN_BYTES,

@@ -1,3 +1,5 @@
+ghost use Rattle.std.specs.Prelude.{◌≡◌, Ok};
+
 use crate::{Copies, Items, NoMemory};
 
 /// The 32 bytes of a SHA-256 digest.
@@ -23,13 +25,17 @@ pub struct Piece {
 pub type Pieces = Items<Piece>;
 
 impl Copies for Bytes32 {
-    fn copy(&self) -> Result<Bytes32, NoMemory> {
+    fn copy(&self) -> Result<Bytes32, NoMemory>
+        ensures { result ≡ Ok self.now }
+    {
         Ok(*self)
     }
 }
 
 impl Copies for Piece {
-    fn copy(&self) -> Result<Piece, NoMemory> {
+    fn copy(&self) -> Result<Piece, NoMemory>
+        ensures { result ≡ Ok self.now }
+    {
         Ok(*self)
     }
 }

@@ -1,3 +1,5 @@
+ghost use Rattle.std.specs.Prelude.{◌≡◌, Ok};
+
 use crate::{Copies, Items, NoMemory, Piece};
 
 /// A piece of a session, as the block with this number.
@@ -34,7 +36,9 @@ pub struct Session {
 }
 
 impl Copies for BlockPiece {
-    fn copy(&self) -> Result<BlockPiece, NoMemory> {
+    fn copy(&self) -> Result<BlockPiece, NoMemory>
+        ensures { result ≡ Ok self.now }
+    {
         Ok(*self)
     }
 }

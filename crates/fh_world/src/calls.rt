@@ -1,4 +1,5 @@
-ghost use Rattle.std.specs.Prelude.{◌≡◌, ◌++◌, [], OnOk};
+ghost use Rattle.std.specs.Prelude.{◌≡◌, ◌==◌, ◌↔◌, ◌+◌, ◌-◌, ◌^◌, ◌++◌, [], min, IsTrue, OnOk, IsErr};
+ghost use Rattle.std.specs.List.{list_any};
 ghost use Rattle.fh_world.specs.Causes.{HasCause, CountsOnce};
 
 use crate::Failed;
@@ -17,6 +18,7 @@ pub(crate) struct Calls {
 impl Calls {
     /// No call yet, and none that is to fail.
     pub(crate) fn new(alloc: Global) -> Calls
+        ensures made { result.made ≡ 0 }
         ensures faults { result.faults ≡ 0 }
         ensures failing { result.failing.items ≡ [] }
     {
@@ -31,6 +33,7 @@ impl Calls {
     pub(crate) fn fail(&mut self, numbers: &[u64]) -> Result<(), NoMemory>
         ensures failing { OnOk result (self.new.failing.items ≡ self.old.failing.items ++ numbers.now) }
         ensures faults { self.new.faults ≡ self.old.faults }
+        ensures made { self.new.made ≡ self.old.made }
     {
         self.failing.extend_from_slice(numbers)?;
         Ok(())
@@ -41,6 +44,8 @@ impl Calls {
         ensures cause { HasCause self.old.faults self.new.faults result }
         ensures once { CountsOnce self.old.faults self.new.faults result }
         ensures failing { self.new.failing.items ≡ self.old.failing.items }
+        ensures made { self.new.made ≡ min (self.old.made + 1) (2 ^ 64 - 1) }
+        ensures fails { IsErr result ↔ IsTrue (list_any (λ y. y == self.new.made) self.new.failing.items) }
     {
         self.made = self.made.saturating_add(1);
         if self.failing.contains(&self.made) {

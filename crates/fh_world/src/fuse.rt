@@ -13,12 +13,13 @@ pub struct FuseDisk<D: Disk> {
 }
 
 impl<D: Disk> FuseDisk<D> {
-    ghost use Rattle.fh_world.specs.Memory.{inner_of, calls_left_of};
+    ghost use Rattle.fh_world.specs.Memory.{inner_of, calls_left_of, fuse_faults};
 
     /// Passes `calls` calls on to this disk.
     pub fn new(disk: D, calls: u64) -> FuseDisk<D>
         ensures inner { inner_of result ≡ disk }
         ensures calls { calls_left_of result ≡ calls }
+        ensures faults { fuse_faults D.Disk result ≡ D.faults disk }
     {
         FuseDisk {
             inner: disk,

@@ -16,13 +16,14 @@ pub struct MemSource {
 }
 
 impl MemSource {
-    ghost use Rattle.fh_world.specs.Memory.{source_given, source_left, source_failing};
+    ghost use Rattle.fh_world.specs.Memory.{source_given, source_left, source_piece, source_failing};
 
     /// A source of these bytes that gives at most `piece` of them in one call.
     pub fn new(bytes: Vec<u8>, piece: usize) -> MemSource
         requires { 0 < piece }
         ensures given { source_given result ≡ [] }
         ensures left { source_left result ≡ bytes.items }
+        ensures piece { source_piece result ≡ piece }
         ensures failing { source_failing result ≡ [] }
     {
         let calls = Calls::new(*bytes.allocator());
@@ -38,6 +39,7 @@ impl MemSource {
     pub fn fail_calls(&mut self, numbers: &[u64]) -> Result<(), NoMemory>
         ensures given { source_given self.new ≡ source_given self.old }
         ensures left { source_left self.new ≡ source_left self.old }
+        ensures piece { source_piece self.new ≡ source_piece self.old }
         ensures failing { OnOk result (source_failing self.new ≡ source_failing self.old ++ numbers.now) }
     {
         self.calls.fail(numbers)
@@ -52,6 +54,7 @@ fn copy_from(from: &[u8], at: usize, piece: usize, buf: &mut [u8]) -> usize
     requires room { 0 < length buf.old }
     ensures rest { at + result ≤ length from.now }
     ensures room { result ≤ length buf.new }
+    ensures few { result ≤ piece }
     ensures copied { take result buf.new ≡ take result (drop at from.now) }
     ensures end { result ≡ 0 → drop at from.now ≡ [] }
 {

@@ -1,5 +1,6 @@
-ghost use Rattle.std.specs.Prelude.{◌≡◌, true, false, Some, IfOk, IsErrOf, IsTrue, MatchOption, codes, drop, length, map, nat_eq};
+ghost use Rattle.std.specs.Prelude.{◌≡◌, ◌<◌, true, false, Some, Ok, IfOk, IsErrOf, IsTrue, MatchOption, codes, drop, length, map, nat_eq};
 ghost use Rattle.std.specs.List.{starts_with};
+ghost use Rattle.fh_model.specs.declared.limits.TheConstants.{PATH_MAX_BYTES};
 ghost use Rattle.fh_model.specs.PathRule.{arg_of, form_of, form_of_parts, is_malformed, is_overlong, path_of, rooted, space};
 
 use crate::fault::PathFault;
@@ -12,10 +13,12 @@ use std::alloc::Global;
 /// Reads a path.
 ///
 /// The forms are `""`, the root; `/` before each of 1 to 64 names; `id:` and any text; `rev:` and 9 hex digits or
-/// more; `ns:` and 1 to 18 decimal digits, with names behind it or none.
+/// more; `ns:` and 1 to 18 decimal digits, with names behind it or none. A text past the limit is told before any
+/// memory is asked for.
 pub fn parse(alloc: Global, text: &Text) -> Result<PathArg, PathFault>
     ensures path { IfOk result (λ arg. path_of text.now ≡ Some arg) }
     ensures malformed { IsErrOf result PathFault.Malformed → IsTrue (is_malformed text.now) }
+    ensures long { PATH_MAX_BYTES < length text.now → IsErrOf result PathFault.Malformed }
 {
     if is_overlong(alloc, text)? {
         return Err(PathFault::Malformed);
@@ -27,7 +30,8 @@ pub fn parse(alloc: Global, text: &Text) -> Result<PathArg, PathFault>
 }
 
 fn is_overlong(alloc: Global, text: &Text) -> Result<bool, NoMemory>
-    ensures { IfOk result (λ long. long ≡ is_overlong text.now) }
+    ensures value { IfOk result (λ long. long ≡ is_overlong text.now) }
+    ensures long { PATH_MAX_BYTES < length text.now → result ≡ Ok true }
 {
     if PATH_MAX_BYTES < text.as_bytes().len() {
         return Ok(true);

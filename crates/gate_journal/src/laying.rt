@@ -1,5 +1,5 @@
 ghost use Rattle.std.specs.Prelude.{◌≡◌, ◌≤◌, ◌++◌, ◌∷◌, [], false, IsTrue, IfOk, IsErrOf};
-ghost use Rattle.fh_world.specs.Causes.{Rose};
+ghost use Rattle.fh_world.specs.Causes.{Rose, CountsOnce};
 ghost use Rattle.gate_journal.specs.Slot.{records, IsAny};
 ghost use Rattle.gate_journal.specs.Journal.{slot_of, is_pending, Settled, AnyMoment, Keeps};
 
@@ -25,6 +25,7 @@ pub fn lay<D: Disk>(
     ensures place { D.place disk.new ≡ D.place disk.old }
     ensures later { D.faults disk.old ≤ D.faults disk.new }
     ensures cause { IsErrOf result LayFault.Disk → Rose (D.faults disk.old) (D.faults disk.new) }
+    ensures once { CountsOnce (D.faults disk.old) (D.faults disk.new) result }
 {
     let bytes = spell(alloc, rows)?;
     write_through(disk, slot, 0, &bytes)?;

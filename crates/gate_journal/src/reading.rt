@@ -1,7 +1,7 @@
 ghost use Rattle.std.specs.Prelude.{◌≡◌, ◌<◌, ◌≤◌, ◌+◌, ℕ, false, length, IsTrue, IfOk, IfSome, IfNone, IsErrOf};
 ghost use Rattle.std.specs.Int.{w64, to_be_bytes, from_be_bytes};
 ghost use Rattle.fh_world.specs.declared.FileNo.{FileNo};
-ghost use Rattle.fh_world.specs.Causes.{Rose};
+ghost use Rattle.fh_world.specs.Causes.{Rose, CountsOnce};
 ghost use Rattle.fh_world.specs.Disk.{Rests, LeavesOnly};
 ghost use Rattle.gate_journal.specs.Journal.{slot_of, is_pending, Settled};
 ghost use Rattle.gate_journal.specs.Slot.{found, Held, Broken, records, length_field, AllShort, IsWhole, IsAtRest};
@@ -29,6 +29,10 @@ pub fn open<D: Disk>(
     ensures place { D.place disk.new ≡ D.place disk.old }
     ensures later { D.faults disk.old ≤ D.faults disk.new }
     ensures cause { IsErrOf result OpenFault.Disk → Rose (D.faults disk.old) (D.faults disk.new) }
+    ensures once { CountsOnce (D.faults disk.old) (D.faults disk.new) result }
+    // A fault of the disk is never told as one of these.
+    ensures memory { IsErrOf result OpenFault.NoMemory → D.faults disk.new ≡ D.faults disk.old }
+    ensures damage { (place : ℕ) → IsErrOf result (OpenFault.Damaged place) → D.faults disk.new ≡ D.faults disk.old }
 {
     disk.sync(slot)?;
     let len = disk.len(slot)?;

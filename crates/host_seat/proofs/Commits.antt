@@ -1,5 +1,5 @@
 -- A commit where nobody else commits and nothing waited.
-use Rattle.std.proofs.Common.{◌≡◌, ℕ, refl, sym, ◌∙◌, ap, List, [], append-nil, Bool, true, false, Option, None, IsTrue}
+use Rattle.std.proofs.Common.{◌≡◌, ℕ, refl, ◌∙◌, ap, List, [], Bool, true, false, Option, None, IsTrue}
 use Rattle.fh_model.specs.declared.commands.Cmd.{Cmd}
 use Rattle.fh_model.specs.declared.pieces.Piece.{Piece}
 use Rattle.fh_model.specs.declared.replies.Reply.{Reply}

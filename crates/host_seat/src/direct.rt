@@ -2,7 +2,7 @@ ghost use Rattle.std.specs.Prelude.{◌≡◌, [], List, Option};
 ghost use Rattle.fh_world.specs.Causes.{Rose};
 
 use crate::{CommitFault, FetchFault, Port, View};
-use fh_model::{Act, Cmd, NoMemory, Reply};
+use fh_model::{Act, Bytes32, Cmd, NoMemory, Reply};
 use fh_world::Disk;
 use name_core::Image;
 use store_core::Store;
@@ -67,7 +67,13 @@ impl<D: Disk> View for Direct<D> {
 
 impl<D: Disk> Port for Direct<D> {
     /// Where a command waits for the disk nothing more is let in: the answer is want of memory, the one that is free.
-    fn commit(&mut self, at: u64, act: Act, bytes: &[u8]) -> Result<Reply, CommitFault> {
+    fn commit(
+        &mut self,
+        at: u64,
+        act: Act,
+        bytes: &[u8],
+        digest: Option<Bytes32>,
+    ) -> Result<Reply, CommitFault> {
         if self.store.waits() {
             return Err(CommitFault::NoMemory);
         }
@@ -76,7 +82,7 @@ impl<D: Disk> Port for Direct<D> {
             at,
             act,
         };
-        match self.store.commit(cmd, bytes) {
+        match self.store.commit(cmd, bytes, digest) {
             Ok(reply) => Ok(reply),
             Err(store_core::CommitFault::Disk) => Err(CommitFault::Disk),
             Err(store_core::CommitFault::NoMemory) => Err(CommitFault::NoMemory),

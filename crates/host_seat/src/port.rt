@@ -1,7 +1,7 @@
 ghost use Rattle.std.specs.Prelude.{◌≡◌};
 
 use crate::View;
-use fh_model::{Act, NoMemory, Reply};
+use fh_model::{Act, Bytes32, NoMemory, Reply};
 
 /// Why a command was not let in.
 #[derive(Clone, Copy, Debug, PartialEq, Eq)]
@@ -41,20 +41,28 @@ pub enum FetchFault {
 
 /// The way from a connection to the machine.
 pub trait Port: View {
-    ghost use Rattle.std.specs.Prelude.{◌≡◌, ◌∷◌, ◌≤◌, [], length, List, Option, Some, None, IfOk, OnOk, OnErr, IsErrOf, IsTrue};
+    ghost use Rattle.std.specs.Prelude.{◌≡◌, ◌∷◌, ◌≤◌, [], length, List, Option, Some, None, IfOk, IfSome, OnOk, OnErr, IsErrOf, IsTrue};
     ghost use Rattle.cmd_codec.specs.Commands.{HasSpelling};
     ghost use Rattle.fh_model.specs.declared.limits.TheConstants.{BLOCK_BYTES};
     ghost use Rattle.fh_model.specs.History.{state_of};
-    ghost use Rattle.fh_world.specs.Causes.{Rose};
+    ghost use Rattle.fh_world.specs.Causes.{CountsOnce, Rose};
+    ghost use Rattle.sha2.specs.Sha256.{sha256};
     ghost use Rattle.host_seat.specs.Port.{Commits, OthersEnter, Leaves, KeepsPieces, PutsData, IsBlock, block_at, placed_at};
 
     /// Lets the command of an act enter with its data, or refuses it, at a point that begins with all that was seen.
     /// `at` is the clock's second, at most `LAST_SECOND`, the act's texts are shorter than 2^32 bytes, and `bytes` are
-    /// its data, at most `BLOCK_BYTES` of them. At a fault nothing of its own entered, but at `Disk` its command may be
-    /// left waiting.
-    fn commit(&mut self, at: u64, act: Act, bytes: &[u8]) -> Result<Reply, CommitFault>
+    /// its data, at most `BLOCK_BYTES` of them; `digest` is theirs where it is known. At a fault nothing of its own
+    /// entered, but at `Disk` its command may be left waiting.
+    fn commit(
+        &mut self,
+        at: u64,
+        act: Act,
+        bytes: &[u8],
+        digest: Option<Bytes32>,
+    ) -> Result<Reply, CommitFault>
         requires spelled { HasSpelling (record { seat = Self.number self.old; at = at; act = act }) }
         requires few { length bytes.now ≤ BLOCK_BYTES }
+        requires digest { IfSome digest (λ known. known.bytes ≡ sha256 bytes.now) }
         ensures point { IfOk result (λ reply. Commits Self.alone (Self.seen self.old) (Self.seen self.new) (record { seat = Self.number self.old; at = at; act = act }) bytes.now reply) }
         ensures settled { OnOk result (Leaves (Self.waits self.old) [] (Self.waits self.new)) }
         ensures fault { OnErr result (OthersEnter Self.alone (Self.seen self.old) (Self.seen self.new)) }
@@ -64,6 +72,9 @@ pub trait Port: View {
         ensures below { IsTrue Self.alone → KeepsPieces (state_of (Self.seen self.old)) (Self.blocks self.old) (Self.blocks self.new) }
         ensures number { Self.number self.new ≡ Self.number self.old }
         ensures later { Self.faults self.old ≤ Self.faults self.new }
+        // A fault of the disk is told as nothing else, and nothing is tried behind it.
+        ensures once { CountsOnce (Self.faults self.old) (Self.faults self.new) result }
+        ensures quiet { ¬ IsErrOf result CommitFault.Disk → Self.faults self.new ≡ Self.faults self.old }
         ensures went { Self.went self.old self.new };
 
     /// The bytes of a block of a version of a file, at a point that begins with all that was seen. `NoRev` comes exactly
@@ -79,6 +90,9 @@ pub trait Port: View {
         ensures waits { Self.waits self.new ≡ Self.waits self.old }
         ensures number { Self.number self.new ≡ Self.number self.old }
         ensures later { Self.faults self.old ≤ Self.faults self.new }
+        // A fault of the disk is told as nothing else, and nothing is tried behind it.
+        ensures once { CountsOnce (Self.faults self.old) (Self.faults self.new) result }
+        ensures quiet { ¬ IsErrOf result FetchFault.Disk → Self.faults self.new ≡ Self.faults self.old }
         ensures went { Self.went self.old self.new };
 
     /// Takes the bytes of a block back, so that another one can be fetched into their room. The port stays as it is.

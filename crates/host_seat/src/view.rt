@@ -23,7 +23,7 @@ pub trait View {
     /// The seat's number, which its commands carry.
     ghost number: { Self → ℕ };
 
-    /// How often it has failed.
+    /// How often the disk has failed it. Where others share the disk, these are the faults of its own calls.
     ghost faults: { Self → ℕ };
 
     /// Whether nobody else lets commands enter.

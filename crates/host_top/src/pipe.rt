@@ -1,4 +1,4 @@
-ghost use Rattle.std.specs.Prelude.{◌≡◌, ◌⊎◌, ◌≤◌, [], List, ℕ, None, IsTrue, map, string_bytes};
+ghost use Rattle.std.specs.Prelude.{◌≡◌, ◌≢◌, ◌⊎◌, ◌≤◌, [], List, ℕ, None, IsTrue, map, string_bytes};
 ghost use Rattle.fh_model.specs.State.{State};
 ghost use Rattle.fh_world.specs.Bytes.{Moves, Holds};
 ghost use Rattle.fh_world.specs.Causes.{Rose};
@@ -44,6 +44,10 @@ pub fn run_pipe<D: Disk, S: Source, K: Sink, C: Clock>(
     ensures read { result ≡ Status.ReadFault → Rose (S.faults input.old) (S.faults input.new) }
     ensures write { result ≡ Status.WriteFault → Rose (K.faults output.old) (K.faults output.new) }
     ensures disk { result ≡ Status.DiskFault → Rose (D.faults disk.old) (D.faults disk.new) }
+    // And each fault that came is told: a count stands as it was, unless the status is its own fault.
+    ensures read_told { result ≢ Status.ReadFault → S.faults input.new ≡ S.faults input.old }
+    ensures write_told { result ≢ Status.WriteFault → K.faults output.new ≡ K.faults output.old }
+    ensures disk_told { result ≢ Status.DiskFault → D.faults disk.new ≡ D.faults disk.old }
     ensures disk_place { D.place disk.new ≡ D.place disk.old }
     ensures input_place { S.place input.new ≡ S.place input.old }
     ensures output_place { K.place output.new ≡ K.place output.old }
@@ -67,6 +71,9 @@ fn serve_words<D: Disk, S: Source, K: Sink, C: Clock>(
     ensures read { result ≡ Status.ReadFault → Rose (S.faults input.old) (S.faults input.new) }
     ensures write { result ≡ Status.WriteFault → Rose (K.faults output.old) (K.faults output.new) }
     ensures disk { result ≡ Status.DiskFault → Rose (D.faults disk.old) (D.faults disk.new) }
+    ensures read_told { result ≢ Status.ReadFault → S.faults input.new ≡ S.faults input.old }
+    ensures write_told { result ≢ Status.WriteFault → K.faults output.new ≡ K.faults output.old }
+    ensures disk_told { result ≢ Status.DiskFault → D.faults disk.new ≡ D.faults disk.old }
     ensures disk_place { D.place disk.new ≡ D.place disk.old }
     ensures input_place { S.place input.new ≡ S.place input.old }
     ensures output_place { K.place output.new ≡ K.place output.old }
@@ -95,6 +102,9 @@ fn serve_lent<D: Disk, S: Source, K: Sink, C: Clock>(
     ensures read { result ≡ Status.ReadFault → Rose (S.faults input.old) (S.faults input.new) }
     ensures write { result ≡ Status.WriteFault → Rose (K.faults output.old) (K.faults output.new) }
     ensures disk { result ≡ Status.DiskFault → Rose (D.faults disk.old) (D.faults disk.new) }
+    ensures read_told { result ≢ Status.ReadFault → S.faults input.new ≡ S.faults input.old }
+    ensures write_told { result ≢ Status.WriteFault → K.faults output.new ≡ K.faults output.old }
+    ensures disk_told { result ≢ Status.DiskFault → D.faults disk.new ≡ D.faults disk.old }
     ensures disk_place { D.place disk.new ≡ D.place disk.old }
     ensures input_place { S.place input.new ≡ S.place input.old }
     ensures output_place { K.place output.new ≡ K.place output.old }
@@ -117,6 +127,9 @@ fn serve_disk<D: Disk, S: Source, K: Sink, C: Clock>(
     ensures read { result.0 ≡ Status.ReadFault → Rose (S.faults input) (S.faults result.2) }
     ensures write { result.0 ≡ Status.WriteFault → Rose (K.faults output) (K.faults result.3) }
     ensures disk { result.0 ≡ Status.DiskFault → Rose (D.faults disk) (D.faults result.1) }
+    ensures read_told { result.0 ≢ Status.ReadFault → S.faults result.2 ≡ S.faults input }
+    ensures write_told { result.0 ≢ Status.WriteFault → K.faults result.3 ≡ K.faults output }
+    ensures disk_told { result.0 ≢ Status.DiskFault → D.faults result.1 ≡ D.faults disk }
     ensures disk_place { D.place result.1 ≡ D.place disk }
     ensures input_place { S.place result.2 ≡ S.place input }
     ensures output_place { K.place result.3 ≡ K.place output }
@@ -135,6 +148,9 @@ fn open_and_serve<D: Disk, S: Source, K: Sink, C: Clock>(
 ) -> (Status, D, S, K)
     requires { IsToken admin.now }
     ensures ran { PipeRan D.Disk S.Source K.Sink (C.second clock.old) admin.now disk result.1 input result.2 output result.3 result.0 }
+    ensures read_told { result.0 ≢ Status.ReadFault → S.faults result.2 ≡ S.faults input }
+    ensures write_told { result.0 ≢ Status.WriteFault → K.faults result.3 ≡ K.faults output }
+    ensures disk_told { result.0 ≢ Status.DiskFault → D.faults result.1 ≡ D.faults disk }
     ensures disk_place { D.place result.1 ≡ D.place disk }
     ensures input_place { S.place result.2 ≡ S.place input }
     ensures output_place { K.place result.3 ≡ K.place output }
@@ -158,6 +174,9 @@ fn serve_store<D: Disk, S: Source, K: Sink, C: Clock>(
 ) -> (Status, Store<D>, S, K)
     requires { IsToken admin.now }
     ensures served { StoreServed D.Disk S.Source K.Sink (C.second clock.old) admin.now store result.1 input result.2 output result.3 result.0 }
+    ensures read_told { result.0 ≢ Status.ReadFault → S.faults result.2 ≡ S.faults input }
+    ensures write_told { result.0 ≢ Status.WriteFault → K.faults result.3 ≡ K.faults output }
+    ensures disk_told { result.0 ≢ Status.DiskFault → D.faults result.1.disk ≡ D.faults store.disk }
     ensures input_place { S.place result.2 ≡ S.place input }
     ensures output_place { K.place result.3 ≡ K.place output }
 {

@@ -1,4 +1,4 @@
-ghost use Rattle.std.specs.Prelude.{◌≡◌, IfOk};
+ghost use Rattle.std.specs.Prelude.{◌≡◌, IfOk, IsOk};
 ghost use Rattle.host_top.specs.Status.{code_of, line_of};
 
 use fh_model::{NoMemory, Text};
@@ -19,7 +19,7 @@ pub enum Status {
     /// The record at this byte of the store's slot is damaged, or stands where it may not.
     Damaged { place: u64 },
 
-    /// The disk failed as the store was opened or as a command was to enter.
+    /// The disk failed as the store was opened, as a command was to enter, or as a content was sent.
     DiskFault,
 
     /// Memory was wanting.
@@ -41,12 +41,13 @@ pub enum Status {
     Spent,
 }
 
-/// The line of a status on standard error, without its end; no text where all was done.
+/// The line of a status on standard error, without its end; no text where all was done, which takes no memory.
 pub fn status_line(alloc: Global, status: &Status) -> Result<Text, NoMemory>
-    ensures { IfOk result (λ line. line ≡ line_of status.now) }
+    ensures line { IfOk result (λ line. line ≡ line_of status.now) }
+    ensures done { status.now ≡ Status.Done → IsOk result }
 {
     let line = match status {
-        Status::Done => String::from_str(alloc, "")?,
+        Status::Done => String::new(alloc),
         Status::Usage => String::from_str(alloc, "filehost: usage")?,
         Status::NotAStore { place } => format!(in alloc; "filehost: not a store at byte {place}")?,
         Status::Damaged { place } => format!(in alloc; "filehost: damaged at byte {place}")?,

@@ -1,19 +1,20 @@
 -- What the bytes at hand say of a head.
-use Rattle.std.proofs.Common.{◌≡◌, ℕ, ◌<◌, ◌≤◌, List, length, map, take, drop, arith, subst, sym, inr, Option, None}
+use Rattle.std.proofs.Common.{◌≡◌, ℕ, ◌<◌, ◌≤◌, List, ◌++◌, length, map, take, drop, arith, subst, sym, inl, inr, Option, None}
 use Rattle.std.proofs.lemmas.List.{take_all}
-use Rattle.httparse.specs.Grammar.{RequestHead, ReadsRequest, HasNoRequest, NeverHasRequest, MayBecomeRequest}
+use Rattle.httparse.specs.Grammar.{RequestHead, ReadsRequest, HasNoRequest, NeverHasRequest, MayBecomeRequest, EndsInTarget}
 use Rattle.httparse.specs.Spans.{header_bytes, span_bytes}
 use Rattle.httparse.specs.declared.spans.HeaderSpan.{HeaderSpan}
 use Rattle.httparse.specs.declared.spans.RequestSpans.{RequestSpans}
 use Rattle.http_in.specs.declared.head.Head.{Head as HeadParts}
 use Rattle.http_in.specs.declared.heads.Step.{Step}
 use Rattle.http_in.specs.declared.heads.Step.TheVariants.{Head, End, Cut, Bad, HeadTooLarge, ReadFault, NoMemory}
-use Rattle.http_in.specs.Heads.{BeginsWithHead, HasManyFields, HasNoHead, IsOverlong, IsBad, IsCut}
-use Rattle.http_in.specs.Framing.{framing_in, IsMisframed}
+use Rattle.http_in.specs.Heads.{judged, BeginsWithHead, HasManyFields, HasNoHead, IsOverlong, IsBad, IsCut}
+use Rattle.http_in.specs.Framing.{framing_in, StatesFraming, IsMisframed, IsFramed}
 use Rattle.http_in.specs.Parts.{IsPartsOf, IsHeadOf}
 use Rattle.http_in.specs.Verdicts.{IsWhole, IsUnfinished, IsTaken}
-use Rattle.http_in.specs.Steps.{IsStepOf, EndsSource, HeadCall}
-use Rattle.http_in.specs.Input.{Fills}
+use Rattle.http_in.specs.Steps.{IsStepOf, EndsSource, Suffices, HeadCall}
+use Rattle.http_in.specs.Input.{Fills, IsStill}
+use Rattle.http_in.proofs.Endings.{judged_head, hopeful_never}
 
 -- a head of too many fields in the bytes at hand
 pub many_of_held : (held : List ℕ) (h : RequestHead) (rest : List ℕ) → length held ≤ 16384
@@ -44,6 +45,21 @@ cut_held held now unfinished same some =
 -- the source failed where no head is whole yet
 pub fault_held : (held now : List ℕ) → IsUnfinished held → now ≡ held → HasNoHead now
 fault_held held now unfinished same = subst HasNoHead (sym same) unfinished.none
+
+-- more bytes are wanted only where those at hand don't suffice
+pub unanswered : (held : List ℕ) → IsUnfinished held → Suffices held → ⊥
+unanswered held unfinished (inl head) = unfinished.none head.0 head.1 head.2.reads
+unanswered held unfinished (inr (inl (inl many))) =
+    unfinished.none many.0 (many.1 ++ drop 16384 held) (judged_head held many.0 many.1 many.2)
+unanswered held unfinished (inr (inl (inr over))) = omega (arith, over.long, unfinished.short)
+unanswered held unfinished (inr (inr bad)) =
+    let same : judged held ≡ held = take_all 16384 held (omega (arith, unfinished.short)) in
+    bad.1 (subst EndsInTarget (sym same) (hopeful_never held unfinished.hopeful (subst NeverHasRequest same bad.0)))
+
+-- the same of bytes that are still those from the start
+pub unanswered_still : {S : Type 0} (old now : S) (held kept : List ℕ) → (Suffices held → IsStill old now held kept) → IsUnfinished kept → Suffices held → ⊥
+unanswered_still old now held kept still unfinished enough =
+    unanswered held (subst IsUnfinished (still enough).bytes_are unfinished) enough
 
 -- the head of the bytes at hand
 whole_begins : (held : List ℕ) (spans : List HeaderSpan) (r : RequestSpans) → (w : IsWhole held spans r)
@@ -77,7 +93,14 @@ taken_is held new spans r Bad w short taken =
       unframed = subst P w.at.fields taken.0;
     } in
     (inr misframed, taken.1)
-taken_is held new spans r NoMemory w short taken = taken
+taken_is held new spans r NoMemory w short taken =
+    let framed : IsFramed held = record {
+      head = w.head;
+      rest = drop r.len held;
+      begins = whole_begins held spans r w short;
+      framed = subst StatesFraming w.at.fields taken.0;
+    } in
+    (framed, taken.1)
 taken_is held new spans r End w short taken = absurd taken
 taken_is held new spans r Cut w short taken = absurd taken
 taken_is held new spans r HeadTooLarge w short taken = absurd taken

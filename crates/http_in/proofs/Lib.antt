@@ -11,5 +11,6 @@ pub mod OneReading
 pub mod PartsSame
 pub mod Sizes
 pub mod SourceFacts
+pub mod StillFacts
 pub mod MoreBytes
 pub mod ReadingFacts

@@ -1,5 +1,5 @@
 -- Reading all requests of a source.
-use Rattle.std.proofs.Common.{◌≡◌, ℕ, ◌+◌, List, [], ◌∷◌, ◌++◌, length, take, arith, sym, subst, ap, ◌∙◌, Option, inl, inr, ◌⊎◌, refl, append_assoc, append-nil, length-append}
+use Rattle.std.proofs.Common.{◌≡◌, ℕ, ◌+◌, ◌-◌, ◌^◌, ◌<◌, ◌≤◌, List, [], ◌∷◌, ◌++◌, length, take, arith, sym, subst, ap, ◌∙◌, Option, inl, inr, ◌⊎◌, refl, append_assoc, append-nil, length-append}
 use Rattle.httparse.specs.Grammar.{RequestHead}
 use Rattle.fh_world.specs.Bytes.{Moves}
 use Rattle.http_in.specs.declared.head.Head.{Head as HeadParts}
@@ -11,7 +11,7 @@ use Rattle.http_in.specs.declared.bodies.BodyStep.{BodyStep}
 use Rattle.http_in.specs.declared.bodies.BodyStep.TheVariants.{Bytes, Done as DoneStep, Cut as CutStep, Bad as BadStep, TooLarge as LargeStep, ReadFault as FaultStep, NoMemory as MemoryStep}
 use Rattle.http_in.specs.declared.all.BodyEnd.{BodyEnd}
 use Rattle.http_in.specs.declared.all.BodyEnd.TheVariants.{Done, Cut, Bad, TooLarge, ReadFault, NoMemory, Unread}
-use Rattle.http_in.specs.declared.all.Outcome.TheVariants.{End as AllEnd, Cut as AllCut, Bad as AllBad, HeadTooLarge as AllLarge, InBody, ReadFault as AllFault, NoMemory as AllMemory}
+use Rattle.http_in.specs.declared.all.Outcome.TheVariants.{End as AllEnd, Cut as AllCut, Bad as AllBad, HeadTooLarge as AllLarge, InBody, ReadFault as AllFault, NoMemory as AllMemory, Unread as AllUnread}
 use Rattle.http_in.specs.Heads.{BeginsWithHead, IsBad}
 use Rattle.http_in.specs.Framing.{IsMisframed}
 use Rattle.http_in.specs.Parts.{limit_of, IsHeadOf}
@@ -20,7 +20,8 @@ use Rattle.http_in.specs.Steps.{HeadCall}
 use Rattle.http_in.specs.Bodies.{Ending, done, cut, bad, too_large, Runs, here, BodyFrom}
 use Rattle.http_in.specs.BodySteps.{BodyCall, PlaceCall}
 use Rattle.http_in.specs.Requests.{Request, BeginsWithBody, Requests, none, more, Final, at_end, is_cut, is_bad, is_over, EndsAs}
-use Rattle.http_in.specs.Readings.{BodyCame, EndsBody, ContentRead, ContentSoFar, content_of, RequestsSoFar, SplitsAs, BodySplits, AllRead}
+use Rattle.http_in.specs.Readings.{BodyCame, EndsBody, ContentRead, ContentSoFar, content_of, RequestsSoFar, Passed, IsInBody, SplitsAs, AddsAs, BodySplits, AllRead}
+use Rattle.std.proofs.lemmas.List.{length-take-le}
 use Rattle.http_in.proofs.SourceFacts.{moves_none, moves_more}
 use Rattle.http_in.proofs.BodyRuns.{runs_on, runs_more}
 use Rattle.http_in.proofs.MoreBytes.{head_more, done_request}
@@ -117,6 +118,12 @@ module _ {S : Type 0} (given left : S → Option (List ℕ)) (old now later : S)
       then_ends so_far.place so_far.next (held ++ (so_far.fresh ++ m)) (kept ++ m) so_far.added e
       (run_on so_far.place so_far.next held so_far.fresh kept so_far.added m so_far.runs) body
 
+  run_further : (m : List ℕ) (next : Place) (added : List ℕ) → Runs so_far.next (kept ++ m) added next new
+      → Runs so_far.place (held ++ (so_far.fresh ++ m)) (so_far.added ++ added) next new
+  run_further m next added runs =
+      runs_on so_far.place so_far.next next (held ++ (so_far.fresh ++ m)) (kept ++ m) new so_far.added added
+      (run_on so_far.place so_far.next held so_far.fresh kept so_far.added m so_far.runs) runs
+
   pub read_done : (buf : List ℕ) → BodyCall given left now later kept new current after DoneStep buf
       → ContentRead given left old later held new state start content Done
   read_done buf call =
@@ -145,20 +152,24 @@ module _ {S : Type 0} (given left : S → Option (List ℕ)) (old now later : S)
       → ContentRead given left old later held new state start content ReadFault
   read_fault buf call =
       let step = call_here given left old now later held kept new state current after start content FaultStep buf so_far call in
-      read_by ReadFault step.fresh step.moves tt tt
+      let P : List ℕ → Type 0 = λ c. Runs so_far.place (held ++ (so_far.fresh ++ step.fresh)) c call.next new in
+      read_by ReadFault step.fresh step.moves
+      (call.next, subst P (append-nil so_far.added) (run_further step.fresh call.next [] step.step_is)) tt
 
   pub read_memory : (buf : List ℕ) → BodyCall given left now later kept new current after MemoryStep buf
       → ContentRead given left old later held new state start content NoMemory
   read_memory buf call =
       let step = call_here given left old now later held kept new state current after start content MemoryStep buf so_far call in
-      read_by NoMemory step.fresh step.moves tt tt
+      absurd step.step_is
 
   -- the portion came, and there was no memory to keep it
-  pub read_lost : (buf : List ℕ) (n : ℕ) → BodyCall given left now later kept new current after (Bytes n) buf
+  pub read_lost : (buf : List ℕ) (n : ℕ) → 0 < n → n ≤ length buf → BodyCall given left now later kept new current after (Bytes n) buf
       → ContentRead given left old later held new state start content NoMemory
-  read_lost buf n call =
+  read_lost buf n some fits call =
       let step = call_here given left old now later held kept new state current after start content (Bytes n) buf so_far call in
-      read_by NoMemory step.fresh step.moves tt tt
+      let lost : List ℕ = take n buf in
+      read_by NoMemory step.fresh step.moves
+      (lost, omega (arith, some, length-take-le n buf fits), (call.next, run_further step.fresh call.next lost step.step_is)) tt
 
 pub read_none : {S : Type 0} (given left : S → Option (List ℕ)) (old now : S) (held kept : List ℕ) (state current : State) (start content : List ℕ)
     → ContentSoFar given left old now held kept state current start content
@@ -170,7 +181,7 @@ read_none given left old now held kept state current start content so_far = reco
   inside = so_far.inside;
   moves = so_far.moves;
   gained = so_far.gained;
-  came = tt;
+  came = (so_far.next, so_far.runs);
   at_end = tt;
 }
 
@@ -192,6 +203,22 @@ requests_none given left s held start =
       gained = sym (append-nil start);
       count = refl;
     }
+
+-- the whole requests so far, before more bytes
+passed_more : {S : Type 0} (given left : S → Option (List ℕ)) (old now : S) (held kept start content : List ℕ) (whole : ℕ)
+    → (so_far : RequestsSoFar given left old now held kept start content whole) → (m : List ℕ)
+    → Passed (held ++ (so_far.fresh ++ m)) start content whole (kept ++ m)
+passed_more given left old now held kept start content whole so_far m = record {
+  requests = so_far.requests;
+  leads = λ more rest rs e all.
+      let P : List ℕ → Type 0 = λ b. Requests b rs rest e in
+      let Q : List ℕ → Type 0 = λ b. Requests b (so_far.requests ++ rs) rest e in
+      let from_here = subst P (append_assoc kept m more) all in
+      let same = sym (append_assoc (held ++ so_far.fresh) m more) ∙ ap (λ (b : List ℕ). b ++ more) (append_assoc held so_far.fresh m) in
+      subst Q same (so_far.joins (m ++ more) rest rs e from_here);
+  count = so_far.count;
+  gained = so_far.gained;
+}
 
 -- the head and the body of one request
 request_of : (bytes middle content : List ℕ) (head : HeadParts) (e : Ending) → (h : RequestHead) → BeginsWithHead bytes h middle
@@ -282,42 +309,66 @@ module _ {S : Type 0} (given left : S → Option (List ℕ)) (old now mid later 
   came_by NoMemory read other = tt
   came_by Unread read other = tt
 
+  -- the place of the body that was read
+  came_there : (end : BodyEnd) → (read : ContentRead given left mid later between new state content gained end)
+      → BodyCame (place_of (limit_of next.step_is.0.target) head.length) (between ++ read.fresh) read.added end new
+  came_there end read =
+      let is_head : IsHeadOf next.step_is.0 head = next.step_is.2 in
+      let same = same_place read.place (place_of (limit_of head.target.items) head.length) (sym read.inside ∙ is) in
+      let P : Place → Type 0 = λ p. BodyCame p (between ++ read.fresh) read.added end new in
+      let Q : List ℕ → Type 0 = λ t. BodyCame (place_of (limit_of t) head.length) (between ++ read.fresh) read.added end new in
+      subst Q is_head.target_is (subst P same read.came)
+
+  in_body : (end : BodyEnd) → (read : ContentRead given left mid later between new state content gained end)
+      → IsInBody (held ++ (so_far.fresh ++ (next.fresh ++ read.fresh))) start gained whole end
+  in_body end read =
+      let m : List ℕ = next.fresh ++ read.fresh in
+      let is_head : IsHeadOf next.step_is.0 head = next.step_is.2 in
+      let longer = head_more (kept ++ next.fresh) read.fresh between next.step_is.0 next.step_is.1 in
+      let Q : List ℕ → Type 0 = λ b. BeginsWithHead b next.step_is.0 (between ++ read.fresh) in
+      record {
+        rest = kept ++ m;
+        before = content;
+        passed = passed_more given left old now held kept start content whole so_far m;
+        head = next.step_is.0;
+        framing = head.length;
+        middle = between ++ read.fresh;
+        begins = subst Q (append_assoc kept next.fresh read.fresh) longer;
+        framed = is_head.length_is;
+        added = read.added;
+        kept = new;
+        came = came_there end read;
+        gained = read.gained;
+      }
+
   pub all_by_body : (end : BodyEnd) → (read : ContentRead given left mid later between new state content gained end) → ¬ (end ≡ Done)
       → AllRead given left old later held start gained whole (InBody end)
   all_by_body end read other = record {
     fresh = so_far.fresh ++ (next.fresh ++ read.fresh);
     moves = all_moves end read;
-    came = came_by end read other;
+    came = (came_by end read other, in_body end read);
     at_end = read.at_end;
   }
 
 -- endings before a head
 module _ {S : Type 0} (given left : S → Option (List ℕ)) (old now later : S) (held kept new start content : List ℕ) (whole : ℕ) (so_far : RequestsSoFar given left old now held kept start content whole) where
-  head_splits : (m : List ℕ) (f : Final) → EndsAs (kept ++ m) f → SplitsAs (held ++ (so_far.fresh ++ m)) whole f
+  head_splits : (m : List ℕ) (f : Final) → EndsAs (kept ++ m) f → AddsAs (held ++ (so_far.fresh ++ m)) start content whole f
   head_splits m f ends =
       let P : List ℕ → Type 0 = λ b. Requests b (so_far.requests ++ []) (kept ++ m) f in (
         so_far.requests ++ [],
         kept ++ m,
         subst P (append_assoc held so_far.fresh m) (so_far.joins m (kept ++ m) [] f (none (kept ++ m) f ends)),
         ap length (append-nil so_far.requests) ∙ so_far.count,
+        so_far.gained ∙ ap (λ (b : List ℕ). start ++ b) (ap content_of (sym (append-nil so_far.requests))),
       )
 
   pub all_end : HeadCall given left now later kept new End → AllRead given left old later held start content whole AllEnd
-  unfolding head_splits
-  all_end call =
-      let split = head_splits call.fresh at_end call.step_is.0 in
-      record {
-        fresh = so_far.fresh ++ call.fresh;
-        moves = moves_more given left old now later so_far.fresh call.fresh so_far.moves call.moves;
-        came = (
-          split.0,
-          split.1,
-          split.2,
-          split.3,
-          so_far.gained ∙ ap (λ (b : List ℕ). start ++ b) (ap content_of (sym (append-nil so_far.requests))),
-        );
-        at_end = call.at_end;
-      }
+  all_end call = record {
+    fresh = so_far.fresh ++ call.fresh;
+    moves = moves_more given left old now later so_far.fresh call.fresh so_far.moves call.moves;
+    came = head_splits call.fresh at_end call.step_is.0;
+    at_end = call.at_end;
+  }
 
   pub all_cut : HeadCall given left now later kept new CutHead → AllRead given left old later held start content whole AllCut
   all_cut call = record {
@@ -351,7 +402,7 @@ module _ {S : Type 0} (given left : S → Option (List ℕ)) (old now later : S)
   all_fault call = record {
     fresh = so_far.fresh ++ call.fresh;
     moves = moves_more given left old now later so_far.fresh call.fresh so_far.moves call.moves;
-    came = tt;
+    came = (kept ++ call.fresh, passed_more given left old now held kept start content whole so_far call.fresh, call.step_is.0);
     at_end = tt;
   }
 
@@ -359,6 +410,21 @@ module _ {S : Type 0} (given left : S → Option (List ℕ)) (old now later : S)
   all_memory call = record {
     fresh = so_far.fresh ++ call.fresh;
     moves = moves_more given left old now later so_far.fresh call.fresh so_far.moves call.moves;
-    came = tt;
+    came = (kept ++ call.fresh, passed_more given left old now held kept start content whole so_far call.fresh, call.step_is.0);
     at_end = tt;
   }
+
+-- 2^64 - 1 requests have come
+pub all_unread : {S : Type 0} (given left : S → Option (List ℕ)) (old now : S) (held kept start content : List ℕ) (whole : ℕ)
+    → RequestsSoFar given left old now held kept start content whole → whole ≡ 2 ^ 64 - 1
+    → AllRead given left old now held start content whole AllUnread
+all_unread given left old now held kept start content whole so_far many = record {
+  fresh = so_far.fresh;
+  moves = so_far.moves;
+  came = (
+    kept,
+    record { requests = so_far.requests; leads = so_far.joins; count = so_far.count; gained = so_far.gained },
+    many,
+  );
+  at_end = tt;
+}

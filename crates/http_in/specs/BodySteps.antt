@@ -7,9 +7,10 @@ use Rattle.http_in.specs.declared.place.State.{State}
 use Rattle.http_in.specs.declared.place.State.TheVariants.{Between, Inside, Ended}
 use Rattle.http_in.specs.declared.bodies.BodyStep.{BodyStep}
 use Rattle.http_in.specs.declared.bodies.BodyStep.TheVariants.{Bytes, Done, Cut, Bad, TooLarge, ReadFault, NoMemory}
-use Rattle.http_in.specs.Bodies.{done, cut, bad, too_large, Runs, BodyFrom}
+use Rattle.http_in.specs.Bodies.{Ending, done, cut, bad, too_large, Runs, BodyFrom}
 
--- the place and the bytes at hand, the answer and what it wrote, and the place after it and the bytes that are kept
+-- The place and the bytes at hand, the answer and what it wrote, and the place after it and the bytes that are kept. A
+-- reader has all memory that a body needs, and so never answers that it is wanting.
 abbrev pub IsBodyStepOf : Place → List ℕ → BodyStep → List ℕ → Place → List ℕ → Type 0
 IsBodyStepOf place bytes (Bytes n) buf next kept = Runs place bytes (take n buf) next kept
 IsBodyStepOf place bytes Done buf next kept = BodyFrom place bytes [] (done kept)
@@ -17,7 +18,17 @@ IsBodyStepOf place bytes Cut buf next kept = BodyFrom place bytes [] cut
 IsBodyStepOf place bytes Bad buf next kept = BodyFrom place bytes [] bad
 IsBodyStepOf place bytes TooLarge buf next kept = BodyFrom place bytes [] too_large
 IsBodyStepOf place bytes ReadFault buf next kept = Runs place bytes [] next kept
-IsBodyStepOf place bytes NoMemory buf next kept = Runs place bytes [] next kept
+IsBodyStepOf place bytes NoMemory buf next kept = ⊥
+
+-- the bytes at hand show that the body ends here, and not for want of bytes
+abbrev pub EndsHere : Place → List ℕ → Type 0
+EndsHere place bytes = (e : Ending) × BodyFrom place bytes [] e × ¬ (e ≡ cut)
+
+-- the same of where a reader stands
+abbrev pub EndsNow : State → List ℕ → Type 0
+EndsNow (Inside place) bytes = EndsHere place bytes
+EndsNow Between bytes = ⊥
+EndsNow Ended bytes = ⊥
 
 -- the source has no byte left where the answer is about its end
 abbrev pub EndsSourceAt : BodyStep → Option (List ℕ) → Type 0

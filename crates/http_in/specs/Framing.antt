@@ -37,6 +37,10 @@ framing_in fields =
     framing_by (find_field (codes "content-length") fields) (nat_lt (count_named (codes "content-length") fields) 2)
     (find_field (codes "transfer-encoding") fields)
 
+-- they state one
+abbrev pub StatesFraming : List (List ℕ × List ℕ) → Type 0
+StatesFraming fields = (framing : Length) × (framing_in fields ≡ Some framing)
+
 -- and of a head
 abbrev pub framing_of : RequestHead → Option Length
 framing_of h = framing_in (map name_and_value h.fields)
@@ -47,3 +51,10 @@ pub record IsMisframed (bytes : List ℕ) : Type 0 where
   pub rest : List ℕ
   pub begins : BeginsWithHead bytes head rest
   pub unframed : framing_of head ≡ None
+
+-- a head begins the bytes, and frames its body
+pub record IsFramed (bytes : List ℕ) : Type 0 where
+  pub head : RequestHead
+  pub rest : List ℕ
+  pub begins : BeginsWithHead bytes head rest
+  pub framed : StatesFraming (map name_and_value head.fields)

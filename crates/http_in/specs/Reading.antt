@@ -9,12 +9,17 @@ use Rattle.http_in.specs.declared.bodies.Given.{Given}
 use Rattle.http_in.specs.declared.bodies.Given.TheVariants.{Bytes, End, Fault}
 use Rattle.http_in.specs.Bodies.{Runs}
 
--- the source goes on from where it was, and the bytes at hand are few
+-- the source goes on from where it was, without a fault, and the bytes at hand are few
 pub record IsGoingOn {S : Type 0} (place : S → List GName) (faults : S → ℕ) (old now : S) (held spans room : ℕ) : Type 0 where
   pub place_is : place now ≡ place old
-  pub later : faults old ≤ faults now
+  pub faults_are : faults now ≡ faults old
   pub within : held ≤ HEAD_MAX_BYTES
   pub room_is : spans ≡ room
+
+-- the source was left alone, and the bytes from the start led to a place without content
+pub record IsStillAt {S : Type 0} (old now : S) (held kept : List ℕ) (place next : Place) : Type 0 where
+  pub source_is : now ≡ old
+  pub runs : Runs place held [] next kept
 
 -- up to a place inside a body no byte of content has come
 pub record HasRun {S : Type 0} (given left : S → Option (List ℕ)) (old now : S) (held kept : List ℕ) (place next : Place) : Type 0 where

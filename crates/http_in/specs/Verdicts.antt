@@ -8,7 +8,7 @@ use Rattle.httparse.specs.declared.spans.RequestSpans.{RequestSpans}
 use Rattle.http_in.specs.declared.heads.Verdict.{Verdict}
 use Rattle.http_in.specs.declared.heads.Verdict.TheVariants.{Whole, TooLarge, Bad, Unfinished}
 use Rattle.http_in.specs.Heads.{IsOver}
-use Rattle.http_in.specs.Framing.{framing_in}
+use Rattle.http_in.specs.Framing.{framing_in, StatesFraming}
 use Rattle.http_in.specs.Parts.{IsPartsOf}
 use Rattle.http_in.specs.declared.heads.Step.{Step}
 use Rattle.http_in.specs.declared.heads.Step.TheVariants.{Head, End, Cut, Bad as BadStep, HeadTooLarge, ReadFault, NoMemory}
@@ -39,7 +39,7 @@ IsTaken old spans r (Head head) new =
     IsPartsOf (span_bytes old r.method) (span_bytes old r.path) r.version (map (header_bytes old) (take r.headers spans)) head
     × (new ≡ drop r.len old)
 IsTaken old spans r BadStep new = (framing_in (map (header_bytes old) (take r.headers spans)) ≡ None) × (new ≡ old)
-IsTaken old spans r NoMemory new = new ≡ old
+IsTaken old spans r NoMemory new = StatesFraming (map (header_bytes old) (take r.headers spans)) × (new ≡ old)
 IsTaken old spans r End new = ⊥
 IsTaken old spans r Cut new = ⊥
 IsTaken old spans r HeadTooLarge new = ⊥

@@ -1,4 +1,5 @@
-ghost use Rattle.std.specs.Prelude.{◌≡◌, ◌<◌, length};
+ghost use Rattle.std.specs.Prelude.{◌≡◌, ◌≢◌, ◌<◌, ◌≤◌, ◌+◌, ◌-◌, ◌^◌, length};
+ghost use Rattle.fh_world.specs.Causes.{Rose};
 ghost use Rattle.http_in.specs.Stands.{IsInside};
 ghost use Rattle.http_in.specs.Readings.{ContentRead, AllRead};
 
@@ -48,6 +49,10 @@ pub fn read_content<S: Source>(
     ensures done { result ≡ BodyEnd.Done → reader.new.state ≡ State.Between }
     ensures read { ContentRead S.given S.left source.old source.new reader.old.held reader.new.held reader.old.state
         content.old.items content.new.items result }
+    ensures unread { result ≡ BodyEnd.Unread → length content.old.items + (2 ^ 64 - 1) ≤ length content.new.items }
+    ensures fault { result ≡ BodyEnd.ReadFault → Rose (S.faults source.old) (S.faults source.new) }
+    ensures told { result ≢ BodyEnd.ReadFault → S.faults source.new ≡ S.faults source.old }
+    ensures once { S.faults source.new ≤ S.faults source.old + 1 }
 {
     'portions: for _ in 0..u64::MAX {
         match reader.body(source, buf) {
@@ -78,8 +83,13 @@ pub fn read_all<S: Source>(
 ) -> (u64, Outcome)
     requires between { reader.old.state ≡ State.Between }
     requires room { 0 < length buf.old }
-    ensures { AllRead S.given S.left source.old source.new reader.old.held content.old.items content.new.items result.0
+    ensures read { AllRead S.given S.left source.old source.new reader.old.held content.old.items content.new.items result.0
         result.1 }
+    ensures fault { result.1 ≡ Outcome.ReadFault → Rose (S.faults source.old) (S.faults source.new) }
+    ensures body_fault { result.1 ≡ Outcome.InBody BodyEnd.ReadFault → Rose (S.faults source.old) (S.faults source.new) }
+    ensures told { result.1 ≢ Outcome.ReadFault → result.1 ≢ Outcome.InBody BodyEnd.ReadFault
+        → S.faults source.new ≡ S.faults source.old }
+    ensures once { S.faults source.new ≤ S.faults source.old + 1 }
 {
     'requests: for whole in 0..u64::MAX {
         match reader.next(source) {

@@ -1,6 +1,6 @@
-ghost use Rattle.std.specs.Prelude.{◌≡◌, ◌<◌, ◌≤◌, length};
+ghost use Rattle.std.specs.Prelude.{◌≡◌, ◌≢◌, ◌<◌, ◌≤◌, ◌+◌, length};
 ghost use Rattle.fh_world.specs.Causes.{Rose};
-ghost use Rattle.http_in.specs.BodySteps.{PlaceCall, FitsRoom, state_after_body};
+ghost use Rattle.http_in.specs.BodySteps.{PlaceCall, FitsRoom, EndsHere, state_after_body};
 ghost use Rattle.http_in.specs.Reading.{IsGiven};
 
 use crate::chunks::{Move, advance, shrink};
@@ -26,8 +26,7 @@ pub enum BodyStep {
     TooLarge,
     /// The source failed.
     ReadFault,
-    /// Memory ran out. No byte is lost, and the call may be made again. A reader asks for all memory that `body` needs
-    /// when it is made, so this doesn't come from it.
+    /// Memory ran out. It never comes from a reader, which asks for all memory that `body` needs when it is made.
     NoMemory,
 }
 
@@ -43,11 +42,14 @@ enum Given {
 fn give<S: Source>(held: &mut Held, most: u64, source: &mut S, buf: &mut [u8]) -> Given
     requires most { 0 < most }
     requires room { 0 < length buf.old }
+    ensures still { 0 < length held.old → source.new ≡ source.old }
     ensures given { IsGiven S.given S.left source.old source.new held.old held.new result most buf.new }
     ensures within { length held.new ≤ length held.old }
     ensures place { S.place source.new ≡ S.place source.old }
     ensures later { S.faults source.old ≤ S.faults source.new }
     ensures fault { result ≡ Given.Fault → Rose (S.faults source.old) (S.faults source.new) }
+    ensures told { result ≢ Given.Fault → S.faults source.new ≡ S.faults source.old }
+    ensures once { S.faults source.new ≤ S.faults source.old + 1 }
 {
     let room = most.min(buf.len() as u64) as usize;
     if held.is_empty() {
@@ -76,11 +78,14 @@ pub(crate) fn read_body<S: Source>(
     requires some { 0 < length buf.old }
     ensures step { PlaceCall S.given S.left source.old source.new held.old held.new place.old place.new
         result buf.new }
+    ensures still { EndsHere place.old held.old → source.new ≡ source.old }
     ensures fits { FitsRoom result (length buf.new) }
     ensures within { length held.new ≤ HEAD_MAX_BYTES }
     ensures place { S.place source.new ≡ S.place source.old }
     ensures later { S.faults source.old ≤ S.faults source.new }
     ensures fault { result ≡ BodyStep.ReadFault → Rose (S.faults source.old) (S.faults source.new) }
+    ensures told { result ≢ BodyStep.ReadFault → S.faults source.new ≡ S.faults source.old }
+    ensures once { S.faults source.new ≤ S.faults source.old + 1 }
 {
     'moves: loop {
         match advance(*place, held, spans) {

@@ -1,8 +1,8 @@
-ghost use Rattle.std.specs.Prelude.{◌≡◌, ◌≤◌, length, take, map};
+ghost use Rattle.std.specs.Prelude.{◌≡◌, ◌≢◌, ◌≤◌, ◌+◌, length, take, map};
 ghost use Rattle.httparse.specs.Spans.{IsRequestWithin, span_bytes, header_bytes};
 ghost use Rattle.fh_world.specs.Causes.{Rose};
 ghost use Rattle.http_in.specs.Verdicts.{IsVerdict, IsTaken};
-ghost use Rattle.http_in.specs.Steps.{HeadCall, state_after};
+ghost use Rattle.http_in.specs.Steps.{HeadCall, Suffices, state_after};
 ghost use Rattle.http_in.specs.Stands.{place_of};
 ghost use Rattle.http_in.specs.Parts.{limit_of};
 ghost use Rattle.http_in.specs.PartsRead.{IsPartsRead};
@@ -36,7 +36,7 @@ pub enum Step {
     HeadTooLarge,
     /// The source failed.
     ReadFault,
-    /// Memory ran out. No byte is lost, and the call may be made again.
+    /// Memory ran out behind a whole head that states a framing. No byte is lost, and the call may be made again.
     NoMemory,
 }
 
@@ -83,9 +83,12 @@ pub(crate) fn read_head<S: Source>(
     requires room { length spans.old ≡ SPANS }
     ensures within { length held.new ≤ HEAD_MAX_BYTES }
     ensures step { HeadCall S.given S.left source.old source.new held.old held.new result }
+    ensures still { Suffices held.old → source.new ≡ source.old }
     ensures place { S.place source.new ≡ S.place source.old }
     ensures later { S.faults source.old ≤ S.faults source.new }
     ensures fault { result ≡ Step.ReadFault → Rose (S.faults source.old) (S.faults source.new) }
+    ensures told { result ≢ Step.ReadFault → S.faults source.new ≡ S.faults source.old }
+    ensures once { S.faults source.new ≤ S.faults source.old + 1 }
 {
     'reads: loop {
         match judge(held.as_slice(), spans) {

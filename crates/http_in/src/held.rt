@@ -1,4 +1,4 @@
-ghost use Rattle.std.specs.Prelude.{◌≡◌, ◌<◌, ◌≤◌, ◌-◌, ◌==◌, [], length, take, drop, slice_range, vec_len, IfOk};
+ghost use Rattle.std.specs.Prelude.{◌≡◌, ◌≢◌, ◌<◌, ◌≤◌, ◌+◌, ◌-◌, ◌==◌, [], length, take, drop, slice_range, vec_len, IfOk};
 ghost use Rattle.std.specs.Io.KnownBytes.{IsAtEnd};
 ghost use Rattle.fh_world.specs.Causes.{Rose};
 ghost use Rattle.http_in.specs.Input.{Fills};
@@ -92,6 +92,8 @@ impl Held {
         ensures place { S.place source.new ≡ S.place source.old }
         ensures later { S.faults source.old ≤ S.faults source.new }
         ensures fault { result ≡ Filled.Fault → Rose (S.faults source.old) (S.faults source.new) × (self.new ≡ self.old) }
+        ensures told { result ≢ Filled.Fault → S.faults source.new ≡ S.faults source.old }
+        ensures once { S.faults source.new ≤ S.faults source.old + 1 }
     {
         move_to_front(&mut self.buffer, self.start, self.end);
         self.end -= self.start;

@@ -13,8 +13,10 @@
 //!
 //! What it promises: each answer is by the definitions in specs/ (`HeadCall`, `BodyCall`) of the bytes at hand, and so
 //! the same however the source cuts them. The bytes of a connection split into requests and one ending in one way
-//! (`one_reading`). After `NoMemory` no byte is lost, and the call may be made again. A reader holds one head and one
-//! buffer of its size, never a body: content goes into the caller's buffer in the pieces in which it arrives.
+//! (`one_reading`). A fault of the source is told at the call in which it came. Where the bytes held are enough for an
+//! answer, the source is left alone (`Suffices`, `EndsNow`). After `NoMemory` no byte is lost, and the call may be made
+//! again. A reader holds one head and one buffer of its size, never a body: content goes into the caller's buffer in
+//! the pieces in which it arrives.
 //!
 //! What it doesn't: it knows no routes but the four that may have content, reads no argument, and writes nothing,
 //! `100 Continue` neither. The limit of 64 field lines is tested once the whole head has come. A head, a chunk line or
@@ -39,7 +41,7 @@ pub use all::{BodyEnd, Outcome, read_all, read_content};
 pub use bodies::BodyStep;
 pub use head::{Head, Length};
 pub use heads::Step;
-pub use laws::{endings_stand, one_body, one_ending, one_reading};
+pub use laws::{endings_stand, limits_are, one_body, one_ending, one_reading};
 pub use limits::{
     BODY_MAX_BYTES, CHUNK_LINE_MAX_BYTES, CONTENT_MAX_BYTES, HEAD_MAX_BYTES, HEAD_MAX_LINES,
     LENGTH_MAX_DIGITS,

@@ -1,8 +1,8 @@
-ghost use Rattle.std.specs.Prelude.{◌≡◌, ◌<◌, ◌≤◌, length, [], IfOk};
+ghost use Rattle.std.specs.Prelude.{◌≡◌, ◌≢◌, ◌<◌, ◌≤◌, ◌+◌, length, [], IfOk};
 ghost use Rattle.fh_world.specs.Causes.{Rose};
-ghost use Rattle.http_in.specs.Steps.{HeadCall, state_after};
+ghost use Rattle.http_in.specs.Steps.{HeadCall, Suffices, state_after};
 ghost use Rattle.http_in.specs.Stands.{IsInside};
-ghost use Rattle.http_in.specs.BodySteps.{BodyCall, FitsRoom};
+ghost use Rattle.http_in.specs.BodySteps.{BodyCall, FitsRoom, EndsNow};
 
 use crate::bodies::{BodyStep, read_body, settle_body};
 use crate::heads::{SPANS, Step, read_head, settle};
@@ -57,10 +57,13 @@ impl Reader {
     pub fn next<S: Source>(&mut self, source: &mut S) -> Step
         requires { self.old.state ≡ State.Between }
         ensures step { HeadCall S.given S.left source.old source.new self.old.held self.new.held result }
+        ensures still { Suffices self.old.held → source.new ≡ source.old }
         ensures state { self.new.state ≡ state_after result }
         ensures place { S.place source.new ≡ S.place source.old }
         ensures later { S.faults source.old ≤ S.faults source.new }
         ensures fault { result ≡ Step.ReadFault → Rose (S.faults source.old) (S.faults source.new) }
+        ensures told { result ≢ Step.ReadFault → S.faults source.new ≡ S.faults source.old }
+        ensures once { S.faults source.new ≤ S.faults source.old + 1 }
     {
         let step = read_head(&mut self.held, &mut self.spans, source);
         self.state = settle(&step);
@@ -74,10 +77,13 @@ impl Reader {
         requires room { 0 < length buf.old }
         ensures step { BodyCall S.given S.left source.old source.new self.old.held self.new.held self.old.state
             self.new.state result buf.new }
+        ensures still { EndsNow self.old.state self.old.held → source.new ≡ source.old }
         ensures fits { FitsRoom result (length buf.new) }
         ensures place { S.place source.new ≡ S.place source.old }
         ensures later { S.faults source.old ≤ S.faults source.new }
         ensures fault { result ≡ BodyStep.ReadFault → Rose (S.faults source.old) (S.faults source.new) }
+        ensures told { result ≢ BodyStep.ReadFault → S.faults source.new ≡ S.faults source.old }
+        ensures once { S.faults source.new ≤ S.faults source.old + 1 }
     {
         let State::Inside(mut place) = self.state else {
             unreachable!();

@@ -1,3 +1,4 @@
 pub mod Committing
 pub mod Images
 pub mod Machine
+pub mod TreeSides

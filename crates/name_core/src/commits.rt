@@ -10,6 +10,7 @@ ghost use Rattle.fh_model.specs.Verdicts.{target_of};
 ghost use Rattle.fh_model.specs.WritePlaces.{missed_above, shown_in};
 ghost use Rattle.name_core.specs.Committing.{committed_of};
 
+use crate::ends::end_over;
 use crate::files::{file_of, hash_on, id_over, next_over, size_of};
 use crate::machine::{Machine, grow_all, tags_of};
 use crate::places::{is_below_file, path_of};
@@ -78,12 +79,11 @@ impl Machine {
             names,
             file: meta.copy()?,
         };
-        let mut revisions = copy_all(alloc, &self.revisions)?;
-        revisions.push(Shared::new(alloc, revision)?)?;
+        let end = end_over(self.end, meta.pieces.as_slice());
         let machine = Machine {
             users: copy_all(alloc, &self.users)?,
             namespaces: grow_all(alloc, &self.namespaces, number, &changes)?,
-            revisions,
+            revisions: self.revisions.and(Shared::new(alloc, revision)?)?,
             sessions: copy_all(alloc, &self.sessions)?,
             next: Next {
                 rev: self.next.rev + 1,
@@ -91,6 +91,7 @@ impl Machine {
                 ..self.next
             },
             moment,
+            end,
         };
         Ok(Committed::Written(machine, Entry::File { names: told, meta }))
     }
@@ -165,6 +166,7 @@ impl Machine {
             revisions,
             sessions,
             next,
+            end,
             ..
         } = self.copy()?;
         let machine = Machine {
@@ -174,6 +176,7 @@ impl Machine {
             sessions,
             next,
             moment,
+            end,
         };
         Ok(Committed::Written(machine, Entry::File { names: told, meta }))
     }

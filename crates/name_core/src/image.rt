@@ -9,10 +9,11 @@ ghost use Rattle.fh_model.specs.State.{opening, token_user, home_of, meta_of};
 ghost use Rattle.fh_model.specs.Resolve.{resolve, found, malformed, not_found};
 ghost use Rattle.fh_model.specs.History.{Kept, state_of, next_of, reply_of};
 
+use crate::chunks::Chunks;
 use crate::machine::{Done, Machine};
 use crate::shared::Shared;
 use crate::{LookFault, RowsFault};
-use fh_model::{Cmd, Copies, FileMeta, Found, NoMemory, Reply, Row, Text, copy_all};
+use fh_model::{Cmd, Copies, FileMeta, Found, NoMemory, Reply, Row, Text};
 use std::alloc::Global;
 use std::marker::Model;
 
@@ -22,7 +23,7 @@ use std::marker::Model;
 pub struct Image {
     start: Shared<Machine>,
     machine: Shared<Machine>,
-    history: Shared<Vec<Shared<Cmd>>>,
+    history: Chunks<Cmd>,
 }
 
 impl Model for Image {
@@ -31,9 +32,9 @@ impl Model for Image {
 
     ghost Value = { Kept };
 
-    ghost view = { λ image. record { start = image.start; history = image.history.items } };
+    ghost view = { λ image. record { start = image.start; history = image.history } };
 
-    ghost invariant = { λ image. IsImage image.start image.history.items image.machine };
+    ghost invariant = { λ image. IsImage image.start image.history image.machine };
 }
 
 impl Image {
@@ -45,7 +46,7 @@ impl Image {
     {
         let machine = Shared::new(alloc, Machine::opening(alloc)?)?;
         let start = machine.copy()?;
-        let history = Shared::new(alloc, Vec::new(alloc))?;
+        let history = Chunks::empty(alloc)?;
         Ok(Image {
             start,
             machine,
@@ -61,7 +62,7 @@ impl Image {
     {
         let machine = Shared::new(alloc, Machine::from_rows(alloc, rows)?)?;
         let start = machine.copy()?;
-        let history = Shared::new(alloc, Vec::new(alloc))?;
+        let history = Chunks::empty(alloc)?;
         Ok(Image {
             start,
             machine,
@@ -84,7 +85,7 @@ impl Image {
         let alloc = self.machine.alloc();
         let start = self.machine.copy()?;
         let machine = self.machine.copy()?;
-        let history = Shared::new(alloc, Vec::new(alloc))?;
+        let history = Chunks::empty(alloc)?;
         Ok(Image {
             start,
             machine,
@@ -128,12 +129,11 @@ impl Image {
             return Ok((self.copy()?, reply));
         };
         let alloc = machine.alloc();
-        let mut history = copy_all(alloc, &self.history)?;
-        history.push(Shared::new(alloc, cmd.copy()?)?)?;
+        let history = self.history.and(Shared::new(alloc, cmd.copy()?)?)?;
         let image = Image {
             start: self.start.copy()?,
             machine: Shared::new(alloc, machine)?,
-            history: Shared::new(alloc, history)?,
+            history,
         };
         Ok((image, reply))
     }

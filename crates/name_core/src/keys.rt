@@ -1,5 +1,5 @@
 //! The keys of names, compared where the names stand.
-ghost use Rattle.std.specs.Prelude.{◌≡◌};
+ghost use Rattle.std.specs.Prelude.{◌≡◌, ◌||◌};
 ghost use Rattle.fh_model.specs.Keys.{key_of, has_key};
 ghost use Rattle.fh_model.specs.KeyOrder.{key_cmp, is_under};
 
@@ -56,4 +56,11 @@ pub(crate) fn is_under(names: &[Name], base: &[Name]) -> bool
             }
         },
     }
+}
+
+/// Whether the key of the names is that of the base or under it.
+pub(crate) fn is_at_or_under(names: &[Name], base: &[Name]) -> bool
+    ensures { result ≡ (has_key names.now (key_of base.now) || is_under (key_of names.now) (key_of base.now)) }
+{
+    has_key(names, base) || is_under(names, base)
 }

@@ -1,5 +1,5 @@
 //! The plain machine over lists: one step is what the definition says.
-ghost use Rattle.std.specs.Prelude.{◌≡◌, ◌<◌, ◌^◌, ℕ, false, true, List, IfOk, Ok, Err, IsErrOf, map, option_copied, find, ◌==◌};
+ghost use Rattle.std.specs.Prelude.{◌≡◌, ◌<◌, ◌^◌, ℕ, false, true, List, IfOk, Ok, Err, IsErrOf, map, flat_map, option_copied, find, ◌==◌};
 ghost use Rattle.std.specs.List.{list_all, list_any};
 ghost use Rattle.fh_model.specs.Rows.{rows_of, state_of_rows};
 ghost use Rattle.fh_model.specs.State.{opening, meta_of, revision_of, session_is_spent, user_of, home_of, token_user, has_token, tree_in, next_is_spent, space_is_spent, is_spent, grown};
@@ -7,10 +7,12 @@ ghost use Rattle.fh_model.specs.Folders.{with_folders, with_folder, unless_taken
 ghost use Rattle.fh_model.specs.Step.{step, act_on};
 ghost use Rattle.fh_model.specs.Stepped.{refused, refusal_of, conflict};
 ghost use Rattle.fh_model.specs.Keys.{key_of};
+ghost use Rattle.fh_model.specs.TreeOrder.{is_in_order};
 ghost use Rattle.fh_model.specs.Trees.{item_at};
-ghost use Rattle.name_core.specs.Machine.{Does, length_fits};
+ghost use Rattle.name_core.specs.Machine.{Does};
 
 use crate::RowsFault;
+use crate::chunks::Chunks;
 use crate::nodes::kind_tag;
 use crate::places::{is_below_file, path_of};
 use crate::row_rules::{counters_in, first_bad};
@@ -31,23 +33,24 @@ use std::marker::Model;
 pub(crate) struct Machine {
     pub(crate) users: Vec<Shared<User>>,
     pub(crate) namespaces: Vec<Shared<Space>>,
-    pub(crate) revisions: Vec<Shared<Revision>>,
+    pub(crate) revisions: Chunks<Revision>,
     pub(crate) sessions: Vec<Shared<Session>>,
     pub(crate) next: Next,
     pub(crate) moment: u64,
+
+    /// The greatest end of a piece, or the greatest number where that is less. Kept, so that no list is read for it.
+    pub(crate) end: u64,
 }
 
 impl Model for Machine {
-    ghost use Rattle.std.specs.Prelude.{◌≡◌, true};
-    ghost use Rattle.std.specs.List.{list_all};
     ghost use Rattle.fh_model.specs.State.{State};
-    ghost use Rattle.name_core.specs.Machine.{length_fits};
+    ghost use Rattle.name_core.specs.Machine.{IsMachine};
 
     ghost Value = { State };
 
-    ghost view = { λ m. record { users = m.users.items; namespaces = m.namespaces.items; revisions = m.revisions.items; sessions = m.sessions.items; next = m.next; moment = m.moment } };
+    ghost view = { λ m. record { users = m.users.items; namespaces = m.namespaces.items; revisions = m.revisions; sessions = m.sessions.items; next = m.next; moment = m.moment } };
 
-    ghost invariant = { λ m. list_all length_fits m.namespaces.items ≡ true };
+    ghost invariant = { λ m. IsMachine m.namespaces.items m.revisions m.sessions.items m.end };
 }
 
 /// What a command was answered, with the next state where it enters.
@@ -75,7 +78,7 @@ impl Machine {
         Ok(Machine {
             users,
             namespaces,
-            revisions: Vec::new(alloc),
+            revisions: Chunks::empty(alloc)?,
             sessions: Vec::new(alloc),
             next: Next {
                 rev: 1,
@@ -85,6 +88,7 @@ impl Machine {
                 namespace: 2,
             },
             moment: 0,
+            end: 0,
         })
     }
 
@@ -104,10 +108,11 @@ impl Machine {
         Ok(Machine {
             users,
             namespaces,
-            revisions: Vec::new(alloc),
+            revisions: Chunks::empty(alloc)?,
             sessions: Vec::new(alloc),
             next,
             moment,
+            end: 0,
         })
     }
 
@@ -134,7 +139,7 @@ impl Machine {
     {
         let users = copy_all(self.alloc(), &self.users)?;
         let namespaces = copy_all(self.alloc(), &self.namespaces)?;
-        let revisions = copy_all(self.alloc(), &self.revisions)?;
+        let revisions = self.revisions.copy()?;
         let sessions = copy_all(self.alloc(), &self.sessions)?;
         Ok(Machine {
             users,
@@ -143,6 +148,7 @@ impl Machine {
             sessions,
             next: self.next,
             moment: self.moment,
+            end: self.end,
         })
     }
 
@@ -193,7 +199,11 @@ impl Machine {
     pub(crate) fn revision(&self, rev: u64) -> Option<&Shared<Revision>>
         ensures { option_copied result ≡ revision_of self.now rev }
     {
-        self.revisions.iter().find(|kept| kept.file.rev == rev)
+        let (full, last) = self.revisions.parts();
+        match revision_in_chunks(full, rev) {
+            Some(kept) => Some(kept),
+            None => revision_in(last, rev),
+        }
     }
 
     pub(crate) fn meta(&self, rev: u64) -> Option<&FileMeta>
@@ -215,7 +225,8 @@ impl Machine {
 
     /// The tree of a namespace, empty where there is no such one.
     pub(crate) fn tree(&self, number: u64) -> &[Shared<Item>]
-        ensures { result.now ≡ tree_in self.now number }
+        ensures items { result.now ≡ tree_in self.now number }
+        ensures order { is_in_order result.now ≡ true }
     {
         match self.space(number) {
             Some(space) => space.tree(),
@@ -252,13 +263,14 @@ impl Machine {
         let next = Machine {
             users: copy_all(alloc, &self.users)?,
             namespaces: grow_all(alloc, &self.namespaces, number, &changes)?,
-            revisions: copy_all(alloc, &self.revisions)?,
+            revisions: self.revisions.copy()?,
             sessions: copy_all(alloc, &self.sessions)?,
             next: Next {
                 id: id + 1,
                 ..self.next
             },
             moment,
+            end: self.end,
         };
         Ok(Done {
             next: Some(next),
@@ -420,6 +432,27 @@ fn any_session_is_spent(sessions: &[Shared<Session>]) -> bool
     ensures { result ≡ list_any session_is_spent sessions.now }
 {
     sessions.iter().any(|session| PIECES_SPENT_AT <= session.pieces.as_slice().len())
+}
+
+fn revision_in(revisions: &[Shared<Revision>], rev: u64) -> Option<&Shared<Revision>>
+    ensures { option_copied result ≡ find (λ kept. kept.file.rev == rev) revisions.now }
+{
+    revisions.iter().find(|kept| kept.file.rev == rev)
+}
+
+fn revision_in_chunks(
+    chunks: &[Shared<Items<Shared<Revision>>>],
+    rev: u64,
+) -> Option<&Shared<Revision>>
+    ensures { option_copied result ≡ find (λ kept. kept.file.rev == rev) (flat_map (λ chunk. chunk) chunks.now) }
+{
+    for chunk in chunks {
+        match revision_in(chunk.as_slice(), rev) {
+            Some(kept) => return Some(kept),
+            None => {}
+        }
+    }
+    None
 }
 
 fn has_token(user: &User, token: &[u8]) -> bool

@@ -180,31 +180,57 @@ fn space(rt: HostRuntime, number: u64) -> Row {
     }
 }
 
-#[test]
-fn a_token_is_of_one_user_as_a_whole(rt: HostRuntime) -> Result<(), Fail> {
-    let counters = Row::Counters {
+fn user(number: u64, token: Option<Text>) -> Row {
+    Row::User {
+        number,
+        home: number,
+        token,
+    }
+}
+
+fn counters() -> Row {
+    Row::Counters {
         rev: 1,
         id: 1,
         session: 1,
         user: 3,
         namespace: 3,
         moment: 0,
-    };
-    let first = Row::User {
-        number: 1,
-        home: 1,
-        token: None,
-    };
-    let second = Row::User {
-        number: 2,
-        home: 2,
-        token: Some(text(rt, "abcdefgh")?),
-    };
-    let rows = vec![in rt.alloc(); counters, first, second, space(rt, 1), space(rt, 2)]?;
-    let image = Image::from_rows(rt.alloc(), &rows)?;
-    assert!(rt; image.token_user(b"abcdefgh") == Some(2));
-    assert!(rt; image.token_user(b"abcdefg") == None);
-    assert!(rt; image.token_user(b"abcdefghi") == None);
+    }
+}
+
+/// Of two users with a home each, of whom the second has a token, the row at the index.
+fn row_of_two(rt: HostRuntime, index: u64) -> Result<Row, Fail> {
+    match index {
+        0 => Ok(counters()),
+        1 => Ok(user(1, None)),
+        2 => Ok(user(2, Some(text(rt, "abcdefgh")?))),
+        3 => Ok(space(rt, 1)),
+        _ => Ok(space(rt, 2)),
+    }
+}
+
+fn rows_of_two(rt: HostRuntime) -> Result<Vec<Row>, Fail> {
+    let mut rows = Vec::new(rt.alloc());
+    for index in 0..5 {
+        rows.push(row_of_two(rt, index)?)?;
+    }
+    Ok(rows)
+}
+
+/// Tokens, and the users that have them.
+const TOKENS: [(&str, Option<u64>); 3] = [
+    ("abcdefgh", Some(2)),
+    ("abcdefg", None),
+    ("abcdefghi", None),
+];
+
+#[test]
+fn a_token_is_of_one_user_as_a_whole(rt: HostRuntime) -> Result<(), Fail> {
+    let image = Image::from_rows(rt.alloc(), &rows_of_two(rt)?)?;
+    for (token, user) in &TOKENS {
+        assert!(rt; image.token_user(token.as_bytes()) == *user);
+    }
     assert!(rt; image.home_of(2) == Some(2));
     assert!(rt; image.home_of(3) == None);
     Ok(())

@@ -1,14 +1,15 @@
 //! What of the namespaces a user sees, and the place that a path gives.
-ghost use Rattle.std.specs.Prelude.{◌≡◌, ◌==◌, ◌++◌, IfOk, OnOk, drop, find, option_copied};
+ghost use Rattle.std.specs.Prelude.{◌≡◌, ◌==◌, ◌++◌, true, IfOk, OnOk, drop, find, option_copied};
 ghost use Rattle.fh_model.specs.Keys.{key_of};
 ghost use Rattle.fh_model.specs.Nodes.{id_of, mounts};
 ghost use Rattle.fh_model.specs.PathRule.{path_of};
 ghost use Rattle.fh_model.specs.Places.{view_of, seen_from, names_in_view, mount_above, is_below_file, place_over, place_behind, place_from, place_of_id, place_of};
+ghost use Rattle.fh_model.specs.TreeOrder.{is_in_order};
 
-use crate::keys::is_under;
 use crate::machine::Machine;
 use crate::nodes::{id_of, is_file, mounted_at, mounts};
 use crate::shared::Shared;
+use crate::trees::item_at;
 use fh_model::{Copies, Item, Items, Name, Names, NoMemory, Node, PathArg, Place, Text, copy_all};
 use fold_path::{PathFault, parse};
 use std::alloc::Global;
@@ -52,18 +53,32 @@ fn names_behind(names: &[Name], count: usize) -> &[Name]
 
 /// The mount point at a proper prefix of the names.
 fn mount_above<'a>(tree: &'a [Shared<Item>], names: &[Name]) -> Option<&'a Shared<Item>>
+    requires order { is_in_order tree.now ≡ true }
     ensures { option_copied result ≡ mount_above tree.now names.now }
 {
-    tree.iter().find(|item| {
-        mounted_at(&item.node).is_some() && is_under(names, item.names.as_slice())
-    })
+    for count in 0..names.len() {
+        if let Some(item) = item_at(tree, &names[..count]) {
+            if mounted_at(&item.node).is_some() {
+                return Some(item);
+            }
+        }
+    }
+    None
 }
 
 /// Whether a proper prefix of the names is a file.
 pub(crate) fn is_below_file(tree: &[Shared<Item>], names: &[Name]) -> bool
+    requires order { is_in_order tree.now ≡ true }
     ensures { result ≡ is_below_file tree.now names.now }
 {
-    tree.iter().any(|item| is_file(&item.node) && is_under(names, item.names.as_slice()))
+    for count in 0..names.len() {
+        if let Some(item) = item_at(tree, &names[..count]) {
+            if is_file(&item.node) {
+                return true;
+            }
+        }
+    }
+    false
 }
 
 fn item_with_id(tree: &[Shared<Item>], id: u64) -> Option<&Shared<Item>>

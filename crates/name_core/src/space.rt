@@ -1,11 +1,13 @@
-ghost use Rattle.std.specs.Prelude.{◌≡◌, ◌<◌, ◌^◌, ◌++◌, [], IfOk};
+ghost use Rattle.std.specs.Prelude.{◌≡◌, ◌<◌, ◌^◌, ◌++◌, [], true, IfOk};
 ghost use Rattle.fh_model.specs.Rows.{namespace_row};
 ghost use Rattle.fh_model.specs.State.{length_of, space_is_spent};
+ghost use Rattle.fh_model.specs.TreeOrder.{is_in_order};
 ghost use Rattle.fh_model.specs.Trees.{tree_of};
 
+use crate::chunks::Chunks;
 use crate::shared::Shared;
 use crate::trees::tree_after;
-use fh_model::{Change, Copies, Item, Members, NoMemory, Row, SPENT_AT, copy_all};
+use fh_model::{Change, Copies, Item, Members, NoMemory, Row, SPENT_AT};
 use std::alloc::Global;
 use std::marker::Model;
 
@@ -18,7 +20,7 @@ pub(crate) struct Space {
     number: u64,
     shared: bool,
     floor: u64,
-    changes: Vec<Shared<Change>>,
+    changes: Chunks<Change>,
     members: Shared<Members>,
     tree: Vec<Shared<Item>>,
 }
@@ -30,9 +32,9 @@ impl Model for Space {
 
     ghost Value = { Namespace };
 
-    ghost view = { λ space. record { number = space.number; shared = space.shared; floor = space.floor; changes = space.changes.items; members = space.members } };
+    ghost view = { λ space. record { number = space.number; shared = space.shared; floor = space.floor; changes = space.changes; members = space.members } };
 
-    ghost invariant = { λ space. space.tree.items ≡ tree_after [] space.changes.items };
+    ghost invariant = { λ space. space.tree.items ≡ tree_after [] space.changes };
 }
 
 impl Space {
@@ -50,7 +52,7 @@ impl Space {
             number,
             shared,
             floor,
-            changes: Vec::new(alloc),
+            changes: Chunks::empty(alloc)?,
             members: Shared::new(alloc, members)?,
             tree: Vec::new(alloc),
         })
@@ -64,7 +66,8 @@ impl Space {
 
     /// What stands in it, in the order of keys.
     pub(crate) fn tree(&self) -> &[Shared<Item>]
-        ensures { result.now ≡ tree_of self.now }
+        ensures items { result.now ≡ tree_of self.now }
+        ensures order { is_in_order result.now ≡ true }
     {
         &self.tree
     }
@@ -95,18 +98,14 @@ impl Space {
     pub(crate) fn grown(&self, changes: &[Shared<Change>]) -> Result<Space, NoMemory>
         ensures { IfOk result (λ space. space ≡ record self.now { changes = self.now.changes ++ changes.now }) }
     {
-        let alloc = *self.changes.allocator();
-        let mut all = copy_all(alloc, &self.changes)?;
-        for change in changes {
-            all.push(change.copy()?)?;
-        }
+        let alloc = *self.tree.allocator();
         Ok(Space {
             number: self.number,
             shared: self.shared,
             floor: self.floor,
-            changes: all,
+            changes: self.changes.with(changes)?,
             members: self.members.copy()?,
-            tree: tree_after(alloc, &self.tree, changes)?,
+            tree: tree_after(alloc, self.tree(), changes)?,
         })
     }
 }

@@ -121,29 +121,50 @@ const BROKEN: [(&[Sketch], usize); 10] = [
     ),
 ];
 
-#[test]
-fn the_rows_of_a_new_store_are_read_back(rt: HostRuntime) -> Result<(), Fail> {
-    let alloc = rt.alloc();
-    let rows = Image::empty(alloc)?.rows()?;
-    assert!(rt; rows.len() == 3);
-    let image = Image::from_rows(alloc, &rows)?;
-    assert!(rt; image.kept() == 0 && image.moment() == 0);
+/// The image of the rows of a new store, of which there are three.
+fn reopened(rt: HostRuntime) -> Result<Image, Fail> {
+    let rows = Image::empty(rt.alloc())?.rows()?;
+    if rows.len() != 3 {
+        return Err("not three rows".into());
+    }
+    Ok(Image::from_rows(rt.alloc(), &rows)?)
+}
+
+fn make_docs(alloc: Global) -> Result<Cmd, Fail> {
     let path = Text::new(String::from_str(alloc, "/Docs")?);
     let act = Act::MakeFolder {
         user: 1,
         path,
         rename: false,
     };
-    let cmd = Cmd {
+    Ok(Cmd {
         seat: 1,
         at: 7,
         act,
-    };
+    })
+}
+
+fn is_entry(reply: &Reply) -> bool {
+    matches!(reply, Reply::Entry(_))
+}
+
+/// Whether the image keeps the one command, refuses it when it comes again, and can forget it.
+fn is_behind(image: &Image, cmd: &Cmd) -> Result<bool, Fail> {
+    let again = image.settle(cmd)?;
+    let forgotten = image.copy()?.forget()?;
+    Ok(image.kept() == 1 && !is_entry(&again) && forgotten.kept() == 0)
+}
+
+#[test]
+fn the_rows_of_a_new_store_are_read_back(rt: HostRuntime) -> Result<(), Fail> {
+    let image = reopened(rt)?;
+    assert!(rt; image.kept() == 0 && image.moment() == 0);
+    let cmd = make_docs(rt.alloc())?;
     let (next, reply) = image.apply(&cmd)?;
-    assert!(rt; matches!(&reply, Reply::Entry(_)));
-    assert!(rt; next.kept() == 1 && next.moment() == 7);
-    assert!(rt; matches!(&next.settle(&cmd)?, Reply::Refused(_)));
-    assert!(rt; next.copy()?.forget()?.kept() == 0);
+    assert!(rt; is_entry(&reply));
+    assert!(rt; next.moment() == 7);
+    let behind = is_behind(&next, &cmd)?;
+    assert!(rt; behind);
     Ok(())
 }
 

@@ -7,11 +7,12 @@ ghost use Rattle.fh_model.specs.Uploads.{session_of, upload, upload_pieces, with
 ghost use Rattle.name_core.specs.Machine.{Does};
 
 use crate::commits::Committed;
+use crate::ends::end_over;
 use crate::files::{has_gap, numbered, pieces_of, size_of};
 use crate::machine::{Done, Machine};
 use crate::shared::Shared;
 use fh_model::{
-    Commit, Next, NoMemory, Piece, Pieces, Refusal, Reply, Session, Tags, User, copy_all,
+    Commit, Copies, Next, NoMemory, Piece, Pieces, Refusal, Reply, Session, Tags, User, copy_all,
 };
 
 impl Machine {
@@ -50,13 +51,14 @@ impl Machine {
         let next = Machine {
             users: copy_all(alloc, &self.users)?,
             namespaces: copy_all(alloc, &self.namespaces)?,
-            revisions: copy_all(alloc, &self.revisions)?,
+            revisions: self.revisions.copy()?,
             sessions,
             next: Next {
                 session: self.next.session + 1,
                 ..self.next
             },
             moment,
+            end: end_over(self.end, pieces.as_slice()),
         };
         let refusal = Refusal {
             tags,

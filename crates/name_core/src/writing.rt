@@ -1,7 +1,8 @@
 //! Where a path writes: the names as the tree shows them, and the folders that are missed above.
-ghost use Rattle.std.specs.Prelude.{◌≡◌, ◌+◌, ◌^◌, ◌≤◌, ◌++◌, ◌∷◌, [], IfOk, OnOk, Some, if◌then◌else◌, is_none, length, option_copied};
+ghost use Rattle.std.specs.Prelude.{◌≡◌, ◌+◌, ◌^◌, ◌≤◌, ◌++◌, ◌∷◌, [], true, IfOk, OnOk, Some, if◌then◌else◌, is_none, length, option_copied};
 ghost use Rattle.fh_model.specs.Keys.{key_of};
 ghost use Rattle.fh_model.specs.Folders.{folders};
+ghost use Rattle.fh_model.specs.TreeOrder.{is_in_order};
 ghost use Rattle.fh_model.specs.Trees.{item_at};
 ghost use Rattle.fh_model.specs.WritePlaces.{write_place, name_at, shown_in, missed_above};
 
@@ -29,6 +30,7 @@ pub(crate) fn shown_in(
     tree: &[Shared<Item>],
     names: &[Name],
 ) -> Result<Names, NoMemory>
+    requires order { is_in_order tree.now ≡ true }
     ensures { IfOk result (λ shown. shown ≡ shown_in tree.now names.now) }
 {
     let mut shown = Vec::new(alloc);
@@ -44,6 +46,7 @@ fn put_if_missed(
     tree: &[Shared<Item>],
     prefix: &[Name],
 ) -> Result<(), NoMemory>
+    requires order { is_in_order tree.now ≡ true }
     ensures { OnOk result (missed.new.items ≡ missed.old.items ++ (if is_none (item_at tree.now (key_of prefix.now)) then prefix.now ∷ [] else [])) }
 {
     if item_at(tree, prefix).is_none() {
@@ -59,6 +62,7 @@ pub(crate) fn missed_above(
     tree: &[Shared<Item>],
     names: &[Name],
 ) -> Result<Vec<Names>, NoMemory>
+    requires order { is_in_order tree.now ≡ true }
     ensures { IfOk result (λ missed. missed.items ≡ missed_above tree.now names.now) }
 {
     let mut missed = Vec::new(alloc);

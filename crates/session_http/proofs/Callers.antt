@@ -1,5 +1,5 @@
 -- What one call of the port means for a request.
-use Rattle.std.proofs.Common.{◌≡◌, ℕ, ◌≤◌, List, [], ◌∷◌, ◌++◌, length, Bool, true, false, IsTrue, Option, None, Some, refl, sym, ◌∙◌, ap, subst, append-nil, arith}
+use Rattle.std.proofs.Common.{◌≡◌, ℕ, ◌≤◌, List, [], ◌∷◌, ◌++◌, length, Bool, true, false, IsTrue, Option, None, Some, option_and_then, refl, sym, ◌∙◌, ap, subst, append-nil, arith}
 use Rattle.fh_model.specs.declared.commands.Act.{Act}
 use Rattle.fh_model.specs.declared.commands.Act.TheVariants.{MakeFolder, Upload}
 use Rattle.fh_model.specs.declared.commands.Cmd.{Cmd}
@@ -12,16 +12,19 @@ use Rattle.fh_model.specs.History.{Kept, state_of, state_after, with_more, next_
 use Rattle.fh_model.specs.KeptFiles.{IsKept}
 use Rattle.fh_model.specs.Pieces.{SamePieces, data_of, end_in}
 use Rattle.fh_model.specs.Resolve.{resolve}
-use Rattle.fh_model.specs.State.{State}
+use Rattle.fh_model.specs.State.{State, token_user}
 use Rattle.fh_model.specs.Step.{step}
 use Rattle.fh_model.proofs.Runs.{with_nothing, state_more, reply_more, next_more}
 use Rattle.host_seat.specs.Port.{Commits, Looks, OthersEnter, OfBoth, KeepsPieces, PutsData, Leaves, placed_at}
 use Rattle.host_seat.proofs.PortLaws.{both_map, keeps_same}
 use Rattle.api_types.specs.declared.answer.Answer.{Answer}
 use Rattle.api_types.specs.declared.answer.Answer.TheVariants.{Plain}
+use Rattle.api_types.specs.declared.route.Route.{Route}
 use Rattle.session_rules.specs.Connection.{cmd_of, cmd_with, entered_by, put_by}
-use Rattle.session_rules.specs.Decisions.{Called, called, Decision, says, enters, loads, looks}
+use Rattle.session_rules.specs.Decisions.{Called, called, called_by, Decision, says, enters, loads, looks}
+use Rattle.session_rules.specs.Judged.{IsCalled}
 use Rattle.session_rules.specs.Replies.{Said, answered, answer_to, answer_to_look, head_of, load_of, pieces_in, said_by, size_in, text_of}
+use Rattle.session_rules.specs.declared.deciding.Caller.TheVariants as caller
 use Rattle.session_rules.specs.declared.loading.Load.TheVariants as load
 use Rattle.session_rules.proofs.Blocks.{put_same}
 use Rattle.session_http.specs.Points.{Calls, Acts, Finds, Misses, IsStuck}
@@ -35,7 +38,7 @@ pub calls_still : (alone : Bool) (admin : List ℕ) (old : Kept) (method target 
     → called admin (state_of old) method target token ≡ it → Calls alone admin old old method target token (Some it)
 calls_still alone admin old method target token it is = record { others = []; grown = with_nothing old; is = is; mine = λ _. refl }
 
-pub calls_looked : (alone : Bool) (admin : List ℕ) (old new image : Kept) (method target : List ℕ) (token : Option (List ℕ)) (it : Called)
+calls_looked : (alone : Bool) (admin : List ℕ) (old new image : Kept) (method target : List ℕ) (token : Option (List ℕ)) (it : Called)
     → Looks alone old new image → called admin (state_of image) method target token ≡ it → Calls alone admin old new method target token (Some it)
 calls_looked alone admin old new image method target token it looked is = record {
   others = looked.others;
@@ -43,6 +46,14 @@ calls_looked alone admin old new image method target token it looked is = record
   is = ap (λ k. called admin (state_of k) method target token) (sym looked.shown) ∙ is;
   mine = looked.mine;
 }
+
+-- the token is there, and the user is whose it is
+pub calls_bearer : (alone : Bool) (admin : List ℕ) (old new image : Kept) (method target : List ℕ) (token : Option (List ℕ)) (route : Route) (user : Option ℕ)
+    → Looks alone old new image → IsCalled (caller.Bearer route) (state_of image) token (called admin (state_of image) method target token)
+    → user ≡ option_and_then (token_user (state_of image)) token → Calls alone admin old new method target token (Some (called_by route user))
+calls_bearer alone admin old new image method target token route user looked by is =
+    let found : user ≡ token_user (state_of image) by.0 = is ∙ ap (option_and_then (token_user (state_of image))) by.1 in
+    calls_looked alone admin old new image method target token (called_by route user) looked (by.2 ∙ ap (called_by route) (sym found))
 
 pub calls_missed : (alone : Bool) (admin : List ℕ) (old new : Kept) (method target : List ℕ) (token : Option (List ℕ)) → OthersEnter alone old new
     → Calls alone admin old new method target token None

@@ -2,7 +2,7 @@
 use Rattle.std.specs.Prelude.{◌≡◌, ◌⊎◌, ℕ, List, [], ◌∷◌}
 use Rattle.httparse.specs.Grammar.{RequestHead}
 use Rattle.http_in.specs.Bodies.{done, cut, bad, too_large}
-use Rattle.http_in.specs.Framing.{IsMisframed}
+use Rattle.http_in.specs.Framing.{IsMisframed, IsFramed}
 use Rattle.http_in.specs.Heads.{BeginsWithHead, HasNoHead, IsBad, IsCut, IsOver}
 use Rattle.http_in.specs.Requests.{Request, BeginsWithBody}
 use Rattle.session_rules.specs.Connection.{interim_of}
@@ -24,9 +24,9 @@ IsGreeted rest before = (h : RequestHead) × (after : List ℕ) × BeginsWithHea
 abbrev pub IsOpened : List ℕ → List ℕ → Type 0
 IsOpened rest before = (HasNoHead rest × (before ≡ [])) ⊎ IsGreeted rest before
 
--- the same, but that the interim text may be missing
+-- nothing was read of it, or its head is whole and states a framing, and the interim text may be missing
 abbrev pub IsBegun : List ℕ → List ℕ → Type 0
-IsBegun rest before = (before ≡ []) ⊎ IsGreeted rest before
+IsBegun rest before = (((rest ≡ []) ⊎ IsFramed rest) × (before ≡ [])) ⊎ IsGreeted rest before
 
 -- it ends inside a request
 abbrev pub IsCutShort : List ℕ → List ℕ → Type 0

@@ -2,6 +2,7 @@ pub mod Begun
 pub mod Bodies
 pub mod Conn
 pub mod Ends
+pub mod Faults
 pub mod Points
 pub mod Sending
 pub mod Spell

@@ -7,12 +7,13 @@ ghost use Rattle.host_seat.specs.Port.{Leaves, OthersEnter};
 ghost use Rattle.session_rules.specs.Decisions.{argued, decided, enters, loads, looks};
 ghost use Rattle.session_rules.specs.Judged.{IsBody};
 ghost use Rattle.session_http.specs.Bodies.{Holds};
+ghost use Rattle.sha2.specs.Sha256.{sha256};
 ghost use Rattle.session_http.specs.Points.{Acts, Answers, Calls, Misses, called_as, called_if, IsStuck};
 
 use crate::bodies::Body;
 use api_types::Route;
 use cmd_codec::has_spelling;
-use fh_model::{Act, Cmd, LAST_SECOND, NoMemory, Text};
+use fh_model::{Act, Bytes32, Cmd, LAST_SECOND, NoMemory, Text};
 use host_seat::{CommitFault, Port};
 use http_in::Head;
 use session_rules::{
@@ -35,7 +36,7 @@ pub(crate) enum Answered {
 }
 
 /// Decides who calls which route. Tokens are looked up only where the head's isn't the admin word.
-#[tactic(auto, using(crate::proofs::Callers::calls_still, crate::proofs::Callers::calls_looked, crate::proofs::Callers::calls_missed))]
+#[tactic(auto, using(crate::proofs::Callers::calls_missed))]
 pub(crate) fn find_caller<P: Port>(
     port: &mut P,
     admin: &Text,
@@ -129,16 +130,19 @@ fn enter<P: Port>(
     at: u64,
     act: Act,
     bytes: &[u8],
+    digest: Option<Bytes32>,
     close: bool,
 ) -> Result<Vec<u8>, CommitFault>
     requires second { at ≤ LAST_SECOND }
     requires few { length bytes.now ≤ BLOCK_BYTES }
+    requires digest { IfSome digest (λ known. known.bytes ≡ sha256 bytes.now) }
     ensures ok { IfOk result (λ text. Acts P.alone (P.number port.old) at (P.seen port.old) (P.seen port.new) (P.blocks port.old) (P.blocks port.new) (enters act bytes.now) close text.items) }
     ensures memory { IsErrOf result CommitFault.NoMemory → Misses P.alone (P.number port.old) at (P.seen port.old) (P.seen port.new) (P.blocks port.old) (P.blocks port.new) (enters act bytes.now) }
     ensures disk { IsErrOf result CommitFault.Disk → IsStuck P.alone (P.number port.old) at (P.seen port.old) (P.seen port.new) (P.blocks port.old) (P.blocks port.new) (P.waits port.old) (P.waits port.new) (enters act bytes.now) × Rose (P.faults port.old) (P.faults port.new) }
     ensures waits { (IsErrOf result CommitFault.Disk → ⊥) → Leaves (P.waits port.old) [] (P.waits port.new) }
     ensures number { P.number port.new ≡ P.number port.old }
     ensures later { P.faults port.old ≤ P.faults port.new }
+    ensures told { ¬ IsErrOf result CommitFault.Disk → P.faults port.new ≡ P.faults port.old }
     ensures went { P.went port.old port.new }
 {
     // No text of a body is as long as 2^32 bytes, which the limits of bodies see to.
@@ -148,7 +152,7 @@ fn enter<P: Port>(
     }
     let Cmd { act, .. } = cmd;
     let form = form_of(&act);
-    let reply = port.commit(at, act, bytes)?;
+    let reply = port.commit(at, act, bytes, digest)?;
     let answer = act_answer(form, reply);
     let text = answer_reply(alloc, &answer, close)?;
     Ok(text)
@@ -173,6 +177,7 @@ fn carry_out<P: Port>(
     ensures waits { (IsErrOf result CommitFault.Disk → ⊥) → Leaves (P.waits port.old) [] (P.waits port.new) }
     ensures number { P.number port.new ≡ P.number port.old }
     ensures later { P.faults port.old ≤ P.faults port.new }
+    ensures told { ¬ IsErrOf result CommitFault.Disk → P.faults port.new ≡ P.faults port.old }
     ensures went { P.went port.old port.new }
 {
     let (route, user) = caller;
@@ -185,13 +190,13 @@ fn carry_out<P: Port>(
             let text = answer_reply(alloc, &answer, close)?;
             Ok(Answered::Text(text))
         }
-        Wish::Enter(act) => {
+        Wish::Enter { act, digest } => {
             // An act whose content isn't at hand was answered that it is too large.
             let Some(body) = body else {
                 return Err(CommitFault::NoMemory);
             };
             let data = data_of(&act, body);
-            let text = enter(alloc, port, at, act, data, close)?;
+            let text = enter(alloc, port, at, act, data, digest, close)?;
             Ok(Answered::Text(text))
         }
         Wish::Look { user, path } => {
@@ -223,6 +228,7 @@ pub(crate) fn respond<P: Port>(
     ensures waits { (IsErrOf result CommitFault.Disk → ⊥) → Leaves (P.waits port.old) [] (P.waits port.new) }
     ensures number { P.number port.new ≡ P.number port.old }
     ensures later { P.faults port.old ≤ P.faults port.new }
+    ensures told { ¬ IsErrOf result CommitFault.Disk → P.faults port.new ≡ P.faults port.old }
     ensures went { P.went port.old port.new }
 {
     let caller = match call {

@@ -1,5 +1,5 @@
 //! Reads the body of a request to its end, and keeps it or drops it.
-ghost use Rattle.std.specs.Prelude.{◌≡◌, ◌+◌, ◌<◌, ◌≤◌, [], length, vec_capacity};
+ghost use Rattle.std.specs.Prelude.{◌≡◌, ◌≢◌, ◌+◌, ◌<◌, ◌≤◌, [], length, vec_capacity};
 ghost use Rattle.fh_world.specs.Causes.{Rose};
 ghost use Rattle.fh_model.specs.declared.limits.TheConstants.{BLOCK_BYTES};
 ghost use Rattle.http_in.specs.Stands.{IsInside};
@@ -61,6 +61,7 @@ pub(crate) fn read_body<S: Source>(
     ensures place { S.place source.new ≡ S.place source.old }
     ensures later { S.faults source.old ≤ S.faults source.new }
     ensures fault { result.0 ≡ BodyEnd.ReadFault → Rose (S.faults source.old) (S.faults source.new) }
+    ensures told { result.0 ≢ BodyEnd.ReadFault → S.faults source.new ≡ S.faults source.old }
 {
     let mut body = if keeps { Body::Whole } else { Body::Gone };
     'portions: for _ in 0..u64::MAX {

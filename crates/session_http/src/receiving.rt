@@ -1,5 +1,5 @@
 //! Reads the next request of a connection, and decides on the way who calls which route.
-ghost use Rattle.std.specs.Prelude.{◌≡◌, ◌≤◌, length, true, IsTrue, IfOk, OnOk, OnErr, IfErr, IfSome, option_map, vec_capacity};
+ghost use Rattle.std.specs.Prelude.{◌≡◌, ◌≢◌, ◌≤◌, length, true, IsTrue, IfOk, OnOk, OnErr, IfErr, IfSome, option_map, vec_capacity};
 ghost use Rattle.fh_model.specs.declared.limits.TheConstants.{BLOCK_BYTES};
 ghost use Rattle.fh_world.specs.Bytes.{Holds};
 ghost use Rattle.http_in.specs.Parts.{limit_of};
@@ -7,6 +7,7 @@ ghost use Rattle.http_in.specs.Stands.{place_of};
 ghost use Rattle.session_rules.specs.Connection.{interim_if};
 ghost use Rattle.session_rules.specs.Replies.{Said, interim_text, text_of};
 ghost use Rattle.session_http.specs.Conn.{source_of, sink_of};
+ghost use Rattle.session_http.specs.Faults.{ChangesOnlyAt};
 ghost use Rattle.session_http.specs.Points.{called_if, is_called};
 ghost use Rattle.session_http.specs.Steps.{Breaks, HearsAll, Opens, SaysLast, Stops};
 ghost use Rattle.session_http.specs.Talk.{moment, terms};
@@ -50,6 +51,7 @@ pub(crate) fn write<K: Sink>(sink: &mut K, text: &[u8]) -> Result<(), ConnEnd>
     ensures end { IfErr result (λ end. end ≡ ConnEnd.WriteFault) }
     ensures place { K.place sink.new ≡ K.place sink.old }
     ensures later { K.faults sink.old ≤ K.faults sink.new }
+    ensures told { ChangesOnlyAt result ConnEnd.WriteFault (K.faults sink.old) (K.faults sink.new) }
 {
     match sink.write(text) {
         Ok(()) => Ok(()),
@@ -65,6 +67,7 @@ fn greet<K: Sink>(sink: &mut K, waiting: bool) -> Result<(), ConnEnd>
     ensures end { IfErr result (λ end. end ≡ ConnEnd.WriteFault) }
     ensures place { K.place sink.new ≡ K.place sink.old }
     ensures later { K.faults sink.old ≤ K.faults sink.new }
+    ensures told { ChangesOnlyAt result ConnEnd.WriteFault (K.faults sink.old) (K.faults sink.new) }
 {
     if waiting {
         return write(sink, interim());
@@ -77,6 +80,7 @@ fn refuse<K: Sink>(sink: &mut K, reply: Result<Vec<u8>, NoMemory>) -> ConnEnd
     ensures said { (it : Said) → IfOk reply (λ text. text.items ≡ text_of it true) → SaysLast K.held K.faults sink.old sink.new it result }
     ensures place { K.place sink.new ≡ K.place sink.old }
     ensures later { K.faults sink.old ≤ K.faults sink.new }
+    ensures told { result ≢ ConnEnd.WriteFault → K.faults sink.new ≡ K.faults sink.old }
 {
     let written = match &reply {
         Ok(text) => write(sink, text),
@@ -134,6 +138,9 @@ fn read_head<P: Port, S: Source, K: Sink, C: Clock>(
     ensures went { P.went port.old port.new }
     ensures source_place { S.place (source_of conn.new) ≡ S.place (source_of conn.old) }
     ensures sink_place { K.place (sink_of conn.new) ≡ K.place (sink_of conn.old) }
+    ensures read_told { ChangesOnlyAt result ConnEnd.ReadFault (S.faults (source_of conn.old)) (S.faults (source_of conn.new)) }
+    ensures write_told { ChangesOnlyAt result ConnEnd.WriteFault (K.faults (sink_of conn.old)) (K.faults (sink_of conn.new)) }
+    ensures disk_told { P.faults port.new ≡ P.faults port.old }
 {
     let alloc = conn.alloc;
     let head = match conn.reader.next(&mut conn.source) {
@@ -178,6 +185,9 @@ pub(crate) fn receive<P: Port, S: Source, K: Sink, C: Clock>(
     ensures went { P.went port.old port.new }
     ensures source_place { S.place (source_of conn.new) ≡ S.place (source_of conn.old) }
     ensures sink_place { K.place (sink_of conn.new) ≡ K.place (sink_of conn.old) }
+    ensures read_told { ChangesOnlyAt result ConnEnd.ReadFault (S.faults (source_of conn.old)) (S.faults (source_of conn.new)) }
+    ensures write_told { ChangesOnlyAt result ConnEnd.WriteFault (K.faults (sink_of conn.old)) (K.faults (sink_of conn.new)) }
+    ensures disk_told { P.faults port.new ≡ P.faults port.old }
 {
     let alloc = conn.alloc;
     let opened = match read_head(port, conn, clock, admin) {

@@ -3,6 +3,7 @@ ghost use Rattle.std.specs.Prelude.{◌≡◌, ◌≤◌, ℕ, IsTrue, IfOk, OnO
 ghost use Rattle.fh_model.specs.declared.files.FileMeta.{FileMeta};
 ghost use Rattle.fh_model.specs.History.{state_of};
 ghost use Rattle.host_seat.specs.Port.{IsBlock, KeepsPieces, OthersEnter, block_at};
+ghost use Rattle.session_http.specs.Faults.{ChangesOnlyAt};
 ghost use Rattle.session_http.specs.Sending.{BreaksOff, HasBlock, IsCause, IsVersion, SendsOn};
 
 use crate::conn::ConnEnd;
@@ -20,6 +21,7 @@ fn fetch<P: Port>(port: &mut P, rev: u64, block: u32) -> Result<Vec<u8>, ConnEnd
     ensures waits { P.waits port.new ≡ P.waits port.old }
     ensures number { P.number port.new ≡ P.number port.old }
     ensures later { P.faults port.old ≤ P.faults port.new }
+    ensures told { ChangesOnlyAt result ConnEnd.DiskFault (P.faults port.old) (P.faults port.new) }
     ensures went { P.went port.old port.new }
 {
     match port.fetch(rev, block) {
@@ -52,6 +54,8 @@ pub(crate) fn send<P: Port, K: Sink>(
     ensures went { P.went port.old port.new }
     ensures place { K.place sink.new ≡ K.place sink.old }
     ensures later { K.faults sink.old ≤ K.faults sink.new }
+    ensures disk_told { ChangesOnlyAt result ConnEnd.DiskFault (P.faults port.old) (P.faults port.new) }
+    ensures write_told { ChangesOnlyAt result ConnEnd.WriteFault (K.faults sink.old) (K.faults sink.new) }
 {
     match write(sink, head) {
         Ok(()) => {}

@@ -1,7 +1,8 @@
 //! Serves the requests of a connection in order.
-ghost use Rattle.std.specs.Prelude.{◌≡◌, ◌≤◌, ◌<◌, ◌+◌, ◌||◌, ◌==◌, [], IfOk, OnOk, IfErr};
+ghost use Rattle.std.specs.Prelude.{◌≡◌, ◌≢◌, ◌≤◌, ◌<◌, ◌+◌, ◌||◌, ◌==◌, [], IfOk, OnOk, IfErr};
 ghost use Rattle.session_http.specs.Conn.{source_of, sink_of, IsNew};
 ghost use Rattle.session_http.specs.Ends.{Served};
+ghost use Rattle.session_http.specs.Faults.{ChangesOnlyAt};
 ghost use Rattle.session_http.specs.Steps.{GoesOn};
 ghost use Rattle.session_http.specs.Talk.{moment, terms};
 
@@ -46,6 +47,9 @@ fn serve_one<P: Port, S: Source, K: Sink, C: Clock>(
     ensures sink_place { K.place (sink_of conn.new) ≡ K.place (sink_of conn.old) }
     ensures source_later { S.faults (source_of conn.old) ≤ S.faults (source_of conn.new) }
     ensures sink_later { K.faults (sink_of conn.old) ≤ K.faults (sink_of conn.new) }
+    ensures read_told { ChangesOnlyAt result ConnEnd.ReadFault (S.faults (source_of conn.old)) (S.faults (source_of conn.new)) }
+    ensures write_told { ChangesOnlyAt result ConnEnd.WriteFault (K.faults (sink_of conn.old)) (K.faults (sink_of conn.new)) }
+    ensures disk_told { ChangesOnlyAt result ConnEnd.DiskFault (P.faults port.old) (P.faults port.new) }
 {
     let alloc = conn.alloc;
     let heard = match receive(port, conn, clock, admin) {
@@ -107,6 +111,10 @@ pub fn serve_conn<P: Port, S: Source, K: Sink, C: Clock>(
     ensures sink_place { K.place (sink_of conn.new) ≡ K.place (sink_of conn.old) }
     ensures source_later { S.faults (source_of conn.old) ≤ S.faults (source_of conn.new) }
     ensures sink_later { K.faults (sink_of conn.old) ≤ K.faults (sink_of conn.new) }
+    // Each fault is told: a count stands as it was, unless the end is a fault of its own.
+    ensures read_told { result ≢ ConnEnd.ReadFault → S.faults (source_of conn.new) ≡ S.faults (source_of conn.old) }
+    ensures write_told { result ≢ ConnEnd.WriteFault → K.faults (sink_of conn.new) ≡ K.faults (sink_of conn.old) }
+    ensures disk_told { result ≢ ConnEnd.DiskFault → P.faults port.new ≡ P.faults port.old }
 {
     'requests: while conn.answered < REQUESTS_MAX {
         match serve_one(port, conn, clock, admin) {

@@ -1,8 +1,9 @@
 -- What the calls of this crate answer, by the definitions.
-use Rattle.std.specs.Prelude.{◌≡◌, ◌<◌, ℕ, List, length, Option, None, Some, option_and_then}
+use Rattle.std.specs.Prelude.{◌≡◌, ◌<◌, ℕ, List, length, Option, None, Some, IfSome}
 use Rattle.fh_model.specs.declared.limits.TheConstants.{BLOCK_BYTES}
 use Rattle.fh_model.specs.Pieces.{data_of}
 use Rattle.fh_model.specs.State.{State, token_user}
+use Rattle.sha2.specs.Sha256.{sha256}
 use Rattle.session_rules.specs.declared.asking.Asked.{Asked}
 use Rattle.session_rules.specs.declared.asking.Asked.TheVariants as asked
 use Rattle.session_rules.specs.declared.deciding.Caller.{Caller}
@@ -23,7 +24,7 @@ fault_said NoToken = invalid_token
 abbrev pub IsCalled : Caller → State → Option (List ℕ) → Called → Type 0
 IsCalled (caller.Refused fault) s token it = it ≡ refused (fault_said fault)
 IsCalled (caller.User route user) s token it = it ≡ calls route user
-IsCalled (caller.Bearer route) s token it = it ≡ called_by route (option_and_then (token_user s) token)
+IsCalled (caller.Bearer route) s token it = (word : List ℕ) × (token ≡ Some word) × (it ≡ called_by route (token_user s word))
 
 -- what is at hand of a body is its content, or the content has more than one block and is gone
 abbrev pub IsBody : Option (List ℕ) → List ℕ → Type 0
@@ -39,9 +40,17 @@ asked_as (asked.Refused complaint) user content = says (plain 400 complaint.item
 abbrev pub decision_of : Wish → List ℕ → Decision
 decision_of (wish.Refused complaint) content = says (plain 400 complaint.items)
 decision_of (wish.Answered answer) content = says (answered answer)
-decision_of (wish.Enter act) content = enters act (data_of act content)
+decision_of (wish.Enter act digest) content = enters act (data_of act content)
 decision_of (wish.Look user path) content = looks user path
 decision_of (wish.Load user path) content = loads user path
 
 abbrev pub IsDecision : Wish → List ℕ → Decision → Type 0
 IsDecision wish content it = it ≡ decision_of wish content
+
+-- a digest that was taken is that of the act's data, which come from these bytes
+abbrev pub IsDigested : Wish → List ℕ → Type 0
+IsDigested (wish.Enter act digest) bytes = IfSome digest (λ known. known.bytes ≡ sha256 (data_of act bytes))
+IsDigested (wish.Refused complaint) bytes = Unit {0}
+IsDigested (wish.Answered answer) bytes = Unit {0}
+IsDigested (wish.Look user path) bytes = Unit {0}
+IsDigested (wish.Load user path) bytes = Unit {0}

@@ -188,7 +188,7 @@ fn answered(rt: HostRuntime, arg: &str, body: Option<&[u8]>) -> Result<Option<St
             let text = answer_reply(rt.alloc(), &answer, false)?;
             Ok(Some(String::from_utf8(text).ok().ok_or("an answer is text")?))
         }
-        Wish::Enter(_) => Ok(None),
+        Wish::Enter { .. } => Ok(None),
         _ => Err("another wish".into()),
     }
 }

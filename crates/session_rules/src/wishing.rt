@@ -1,15 +1,16 @@
 //! What a request comes to, where nothing refuses it by its head.
-ghost use Rattle.std.specs.Prelude.{◌≡◌, List, ℕ, IfOk, None, true, option_map};
+ghost use Rattle.std.specs.Prelude.{◌≡◌, ◌≤◌, List, ℕ, length, IfOk, IfSome, None, true, option_map};
 ghost use Rattle.api_types.specs.Routes.{has_content};
-ghost use Rattle.fh_model.specs.Content.{content_hash};
+ghost use Rattle.fh_model.specs.declared.limits.TheConstants.{BLOCK_BYTES};
 ghost use Rattle.fh_model.specs.Pieces.{data_of};
 ghost use Rattle.session_rules.specs.Decisions.{argued, argued_by, asked_for, is_announced, uploads};
-ghost use Rattle.session_rules.specs.Judged.{IsBody, IsDecision};
+ghost use Rattle.session_rules.specs.Judged.{IsBody, IsDecision, IsDigested};
+ghost use Rattle.sha2.specs.Sha256.{sha256};
 
 use crate::asking::{Asked, asked_of};
 use crate::replying::{mismatch_answer, too_large_answer};
 use api_types::{Answer, Request, Route};
-use content_hash::Hasher;
+use content_hash::of_block;
 use fh_model::{Act, BLOCK_BYTES, Bytes32, Commit, NoMemory, Text};
 use std::alloc::Global;
 
@@ -22,8 +23,8 @@ pub enum Wish {
     /// It is refused for its content, with this answer.
     Answered(Answer),
 
-    /// A command is to enter. Its data are those that `data_of` gives.
-    Enter(Act),
+    /// A command is to enter. Its data are those that `data_of` gives, with their digest where it was taken.
+    Enter { act: Act, digest: Option<Bytes32> },
 
     /// A path is to be looked up for a user.
     Look { user: u64, path: Text },
@@ -42,21 +43,18 @@ pub fn data_of<'a>(act: &Act, body: &'a [u8]) -> &'a [u8]
     }
 }
 
-fn hash_of(content: &[u8]) -> Bytes32
-    ensures { result.bytes ≡ content_hash content.now }
-{
-    let mut hasher = Hasher::new();
-    hasher.update(content);
-    hasher.digest()
-}
-
-/// Whether a content is the one that was announced, if one was.
-fn is_announced(hash: Option<Bytes32>, content: &[u8]) -> bool
-    ensures { result ≡ is_announced hash content.now }
+/// Whether a content of at most a block is the one that was announced, if one was, and its digest where it was taken.
+fn is_announced(hash: Option<Bytes32>, content: &[u8]) -> (bool, Option<Bytes32>)
+    requires { length content.now ≤ BLOCK_BYTES }
+    ensures announced { result.0 ≡ is_announced hash content.now }
+    ensures digest { IfSome result.1 (λ digest. digest.bytes ≡ sha256 content.now) }
 {
     match hash {
-        Some(hash) => hash.bytes.as_slice() == hash_of(content).bytes.as_slice(),
-        None => true,
+        Some(hash) => {
+            let (digest, found) = of_block(content);
+            (hash.bytes.as_slice() == found.bytes.as_slice(), digest)
+        }
+        None => (true, None),
     }
 }
 
@@ -69,7 +67,8 @@ fn upload_wish(
     hash: Option<Bytes32>,
     body: Option<&[u8]>,
 ) -> Result<Wish, NoMemory>
-    ensures { (content : List ℕ) → IsBody (option_map (λ bytes. bytes.now) body.entry) content → IfOk result (λ wish. IsDecision wish content (uploads user commit hash content)) }
+    ensures decision { (content : List ℕ) → IsBody (option_map (λ bytes. bytes.now) body.entry) content → IfOk result (λ wish. IsDecision wish content (uploads user commit hash content)) }
+    ensures digest { IfSome body.entry (λ bytes. IfOk result (λ wish. IsDigested wish bytes.now)) }
 {
     let Some(body) = body else {
         let answer = too_large_answer(alloc)?;
@@ -79,16 +78,18 @@ fn upload_wish(
         let answer = too_large_answer(alloc)?;
         return Ok(Wish::Answered(answer));
     }
-    if !is_announced(hash, body) {
+    let (announced, digest) = is_announced(hash, body);
+    if !announced {
         let answer = mismatch_answer(alloc)?;
         return Ok(Wish::Answered(answer));
     }
-    Ok(Wish::Enter(Act::Upload {
+    let act = Act::Upload {
         user,
         commit,
         drafted: 0,
         last: None,
-    }))
+    };
+    Ok(Wish::Enter { act, digest })
 }
 
 fn wish_for(
@@ -97,14 +98,18 @@ fn wish_for(
     request: Request,
     body: Option<&[u8]>,
 ) -> Result<Wish, NoMemory>
-    ensures { (content : List ℕ) → IsBody (option_map (λ bytes. bytes.now) body.entry) content → IfOk result (λ wish. IsDecision wish content (asked_for user content request)) }
+    ensures decision { (content : List ℕ) → IsBody (option_map (λ bytes. bytes.now) body.entry) content → IfOk result (λ wish. IsDecision wish content (asked_for user content request)) }
+    ensures digest { IfSome body.entry (λ bytes. IfOk result (λ wish. IsDigested wish bytes.now)) }
 {
     match request {
-        Request::CreateFolder { path, autorename } => Ok(Wish::Enter(Act::MakeFolder {
-            user,
-            path,
-            rename: autorename,
-        })),
+        Request::CreateFolder { path, autorename } => Ok(Wish::Enter {
+            act: Act::MakeFolder {
+                user,
+                path,
+                rename: autorename,
+            },
+            digest: None,
+        }),
         Request::GetMetadata { path } => Ok(Wish::Look { user, path }),
         Request::Upload {
             commit,
@@ -121,7 +126,8 @@ fn wish_by(
     argument: Option<&[u8]>,
     body: Option<&[u8]>,
 ) -> Result<Wish, NoMemory>
-    ensures { (content : List ℕ) → IsBody (option_map (λ bytes. bytes.now) body.entry) content → IfOk result (λ wish. IsDecision wish content (argued_by route user content (option_map (λ bytes. bytes.now) argument.entry))) }
+    ensures decision { (content : List ℕ) → IsBody (option_map (λ bytes. bytes.now) body.entry) content → IfOk result (λ wish. IsDecision wish content (argued_by route user content (option_map (λ bytes. bytes.now) argument.entry))) }
+    ensures digest { IfSome body.entry (λ bytes. IfOk result (λ wish. IsDigested wish bytes.now)) }
 {
     let asked = asked_of(alloc, route, argument)?;
     match asked {
@@ -140,7 +146,8 @@ pub fn wish_of(
     body: Option<&[u8]>,
 ) -> Result<Wish, NoMemory>
     requires { option_map (λ bytes. bytes.now) body ≡ None → has_content route ≡ true }
-    ensures { (content : List ℕ) → IsBody (option_map (λ bytes. bytes.now) body.entry) content → IfOk result (λ wish. IsDecision wish content (argued route user (option_map (λ bytes. bytes.now) arg.entry) content)) }
+    ensures decision { (content : List ℕ) → IsBody (option_map (λ bytes. bytes.now) body.entry) content → IfOk result (λ wish. IsDecision wish content (argued route user (option_map (λ bytes. bytes.now) arg.entry) content)) }
+    ensures digest { IfSome body.entry (λ bytes. IfOk result (λ wish. IsDigested wish bytes.now)) }
 {
     if route.has_content() {
         return wish_by(alloc, route, user, arg, body);

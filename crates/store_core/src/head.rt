@@ -1,6 +1,6 @@
 //! The head file.
 ghost use Rattle.std.specs.Prelude.{◌≡◌, ◌≤◌, ◌==◌, not, get_or, length, IsTrue, IfOk, OnOk};
-ghost use Rattle.fh_world.specs.Causes.{HasCause};
+ghost use Rattle.fh_world.specs.Causes.{HasCause, CountsOnce};
 ghost use Rattle.fh_world.specs.declared.FileNo.{FileNo};
 ghost use Rattle.fh_world.specs.Disk.{Only, Rests, LeavesOnly};
 ghost use Rattle.gate_journal.specs.Journal.{AnyMoment, Keeps};
@@ -99,6 +99,7 @@ pub(crate) fn read<D: Disk>(disk: &mut D) -> Result<HeadRead, Failed>
     ensures any_moment { LeavesOnly D.moment D.left_since disk.old disk.new (λ image. (g : FileNo) → D.may_leave disk.old g (image g)) }
     ensures place { D.place disk.new ≡ D.place disk.old }
     ensures cause { HasCause (D.faults disk.old) (D.faults disk.new) result }
+    ensures once { CountsOnce (D.faults disk.old) (D.faults disk.new) result }
 {
     let len = disk.len(FileNo::Head)?;
     if len > HEAD_BYTES as u64 {
@@ -122,6 +123,7 @@ pub(crate) fn write_head<D: Disk>(disk: &mut D) -> Result<(), Failed>
     ensures others { IsTrue D.tells → Keeps D.Disk FileNo.Head disk.old disk.new }
     ensures place { D.place disk.new ≡ D.place disk.old }
     ensures cause { HasCause (D.faults disk.old) (D.faults disk.new) result }
+    ensures once { CountsOnce (D.faults disk.old) (D.faults disk.new) result }
 {
     shut(disk)?;
     write_through(disk, FileNo::Head, 1, &TEXT_OF_SLOT_A)?;
@@ -140,6 +142,7 @@ fn shut<D: Disk>(disk: &mut D) -> Result<(), Failed>
     ensures others { IsTrue D.tells → Keeps D.Disk FileNo.Head disk.old disk.new }
     ensures place { D.place disk.new ≡ D.place disk.old }
     ensures cause { HasCause (D.faults disk.old) (D.faults disk.new) result }
+    ensures once { CountsOnce (D.faults disk.old) (D.faults disk.new) result }
 {
     if is_shut(disk)? {
         return Ok(());
@@ -155,6 +158,7 @@ fn is_shut<D: Disk>(disk: &mut D) -> Result<bool, Failed>
     ensures any_moment { LeavesOnly D.moment D.left_since disk.old disk.new (λ image. (g : FileNo) → D.may_leave disk.old g (image g)) }
     ensures place { D.place disk.new ≡ D.place disk.old }
     ensures cause { HasCause (D.faults disk.old) (D.faults disk.new) result }
+    ensures once { CountsOnce (D.faults disk.old) (D.faults disk.new) result }
 {
     if disk.len(FileNo::Head)? == 0 {
         return Ok(false);

@@ -3,7 +3,7 @@ ghost use Rattle.std.specs.Prelude.{◌≡◌, ◌≢◌, ◌<◌, ◌≤◌, �
 ghost use Rattle.std.specs.Prelude.{All};
 ghost use Rattle.fh_model.specs.Rows.{rows_of};
 ghost use Rattle.fh_model.specs.State.{opening};
-ghost use Rattle.fh_world.specs.Causes.{HasCause, Rose};
+ghost use Rattle.fh_world.specs.Causes.{CountsOnce, HasCause, Rose};
 ghost use Rattle.fh_world.specs.declared.FileNo.{FileNo};
 ghost use Rattle.fh_world.specs.Disk.{Only, LeavesOnly};
 ghost use Rattle.gate_journal.specs.Journal.{is_pending, KeepsOthers};
@@ -37,6 +37,8 @@ pub(crate) fn make<D: Disk>(alloc: Global, disk: &mut D) -> Result<(Journal, Ima
     ensures place { D.place disk.new ≡ D.place disk.old }
     ensures later { D.faults disk.old ≤ D.faults disk.new }
     ensures cause { IsErrOf result StoreFault.Disk → Rose (D.faults disk.old) (D.faults disk.new) }
+    ensures once { CountsOnce (D.faults disk.old) (D.faults disk.new) result }
+    ensures quiet { ¬ IsErrOf result StoreFault.Disk → D.faults disk.new ≡ D.faults disk.old }
 {
     let image = Image::empty(alloc)?;
     let rows = image.rows()?;

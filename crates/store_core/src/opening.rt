@@ -1,7 +1,7 @@
 //! How a store is opened.
 ghost use Rattle.std.specs.Prelude.{◌≡◌, ◌⊎◌, ◌≤◌, ◌^◌, ℕ, [], List, false, IsTrue, IfOk, IfErr, OnOk, OnErr, IsErrOf, Ok, Err};
 ghost use Rattle.fh_model.specs.Pieces.{end_in};
-ghost use Rattle.fh_world.specs.Causes.{HasCause, Rose};
+ghost use Rattle.fh_world.specs.Causes.{HasCause, CountsOnce, Rose};
 ghost use Rattle.fh_world.specs.declared.FileNo.{FileNo};
 ghost use Rattle.fh_world.specs.Disk.{Only, Rests, LeavesOnly};
 ghost use Rattle.gate_journal.specs.Journal.{is_pending};
@@ -30,6 +30,8 @@ pub(crate) fn open_on<D: Disk>(alloc: Global, disk: &mut D) -> Result<(Journal, 
     ensures place { D.place disk.new ≡ D.place disk.old }
     ensures later { D.faults disk.old ≤ D.faults disk.new }
     ensures cause { IsErrOf result StoreFault.Disk → Rose (D.faults disk.old) (D.faults disk.new) }
+    ensures once { CountsOnce (D.faults disk.old) (D.faults disk.new) result }
+    ensures quiet { ¬ IsErrOf result StoreFault.Disk → D.faults disk.new ≡ D.faults disk.old }
 {
     sync_all(disk)?;
     match head::read(disk)? {
@@ -46,6 +48,7 @@ fn sync_all<D: Disk>(disk: &mut D) -> Result<(), Failed>
     ensures any_moment { LeavesOnly D.moment D.left_since disk.old disk.new (λ image. (g : FileNo) → D.may_leave disk.old g (image g)) }
     ensures place { D.place disk.new ≡ D.place disk.old }
     ensures cause { HasCause (D.faults disk.old) (D.faults disk.new) result }
+    ensures once { CountsOnce (D.faults disk.old) (D.faults disk.new) result }
 {
     disk.sync(FileNo::Head)?;
     disk.sync(FileNo::SlotA)?;

@@ -3,9 +3,10 @@ ghost use Rattle.std.specs.Prelude.{◌≡◌, ◌++◌, ◌+◌, ◌<◌, ◌^�
 ghost use Rattle.std.specs.Option.{option_to_list};
 ghost use Rattle.cmd_codec.specs.Commands.{HasSpelling, IsBlock};
 ghost use Rattle.fh_model.specs.Pieces.{data_of, named_in, piece_of, with_piece};
-ghost use Rattle.fh_world.specs.Causes.{HasCause};
+ghost use Rattle.fh_world.specs.Causes.{HasCause, CountsOnce};
 ghost use Rattle.fh_world.specs.Disk.{LeavesOnly, LeavesTorn, Writes};
 ghost use Rattle.fh_world.specs.declared.FileNo.TheVariants.{Blocks};
+ghost use Rattle.sha2.specs.Sha256.{sha256};
 ghost use Rattle.store_core.specs.Store.{HoldsBlocks};
 
 use crate::CommitFault;
@@ -25,9 +26,23 @@ pub(crate) fn data_of<'a>(act: &Act, bytes: &'a [u8]) -> &'a [u8]
     }
 }
 
+/// The digest of the bytes, which is taken where it isn't known.
+fn digest_of(bytes: &[u8], known: Option<Bytes32>) -> Bytes32
+    requires { IfSome known (λ digest. digest.bytes ≡ sha256 bytes.now) }
+    ensures { result.bytes ≡ sha256 bytes.now }
+{
+    match known {
+        Some(digest) => digest,
+        None => Bytes32 {
+            bytes: Sha256::digest(bytes),
+        },
+    }
+}
+
 /// The piece of the bytes at a place, none where there are none.
-pub(crate) fn piece_of(place: u64, bytes: &[u8]) -> Option<Piece>
-    requires { length bytes.now ≤ BLOCK_BYTES }
+pub(crate) fn piece_of(place: u64, bytes: &[u8], digest: Option<Bytes32>) -> Option<Piece>
+    requires few { length bytes.now ≤ BLOCK_BYTES }
+    requires digest { IfSome digest (λ known. known.bytes ≡ sha256 bytes.now) }
     ensures piece { result ≡ piece_of place bytes.now }
     ensures block { IfSome result IsBlock }
 {
@@ -36,16 +51,20 @@ pub(crate) fn piece_of(place: u64, bytes: &[u8]) -> Option<Piece>
         [_, ..] => Some(Piece {
             place,
             len: bytes.len() as u32,
-            digest: Bytes32 {
-                bytes: Sha256::digest(bytes),
-            },
+            digest: digest_of(bytes, digest),
         }),
     }
 }
 
 /// The command with its data at a place, whatever it named before, and the piece of its data.
-pub(crate) fn placed(cmd: Cmd, place: u64, bytes: &[u8]) -> (Cmd, Option<Piece>)
-    requires { length bytes.now ≤ BLOCK_BYTES }
+pub(crate) fn placed(
+    cmd: Cmd,
+    place: u64,
+    bytes: &[u8],
+    digest: Option<Bytes32>,
+) -> (Cmd, Option<Piece>)
+    requires few { length bytes.now ≤ BLOCK_BYTES }
+    requires digest { IfSome digest (λ known. known.bytes ≡ sha256 bytes.now) }
     ensures cmd { result.0 ≡ record cmd { act = with_piece (piece_of place bytes.now) cmd.act } }
     ensures piece { result.1 ≡ piece_of place (data_of cmd.act bytes.now) }
     ensures named { named_in result.0.act ≡ option_to_list result.1 }
@@ -63,7 +82,7 @@ pub(crate) fn placed(cmd: Cmd, place: u64, bytes: &[u8]) -> (Cmd, Option<Piece>)
             drafted,
             ..
         } => {
-            let last = piece_of(place, bytes);
+            let last = piece_of(place, bytes, digest);
             let act = Act::Upload {
                 user,
                 commit,
@@ -92,6 +111,7 @@ pub(crate) fn put<D: Disk>(
     ensures any_moment { IsTrue D.tells → LeavesOnly D.moment D.left_since disk.old disk.new (LeavesTorn Blocks end (length content.now) (D.may_leave disk.old)) }
     ensures place { D.place disk.new ≡ D.place disk.old }
     ensures cause { HasCause (D.faults disk.old) (D.faults disk.new) result }
+    ensures once { CountsOnce (D.faults disk.old) (D.faults disk.new) result }
     ensures disk { IfErr result (λ fault. fault ≡ CommitFault.Disk) }
 {
     let Some(piece) = piece else {

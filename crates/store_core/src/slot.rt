@@ -2,7 +2,7 @@
 ghost use Rattle.std.specs.Prelude.{◌≡◌, ◌<◌, ◌^◌, ◌≤◌, ◌∷◌, [], ℕ, false, length, List, IsTrue, IfOk, Ok, Err, IsErrOf};
 ghost use Rattle.fh_model.specs.History.{state_of, state_after};
 ghost use Rattle.fh_model.specs.Pieces.{end_in, ends_within, lies_within};
-ghost use Rattle.fh_world.specs.Causes.{Rose};
+ghost use Rattle.fh_world.specs.Causes.{CountsOnce, Rose};
 ghost use Rattle.fh_world.specs.declared.FileNo.{FileNo};
 ghost use Rattle.fh_world.specs.declared.FileNo.TheVariants.{Blocks};
 ghost use Rattle.fh_world.specs.Disk.{Rests, LeavesOnly};
@@ -39,6 +39,8 @@ pub(crate) fn read<D: Disk>(
     ensures place { D.place disk.new ≡ D.place disk.old }
     ensures later { D.faults disk.old ≤ D.faults disk.new }
     ensures cause { IsErrOf result StoreFault.Disk → Rose (D.faults disk.old) (D.faults disk.new) }
+    ensures once { CountsOnce (D.faults disk.old) (D.faults disk.new) result }
+    ensures quiet { ¬ IsErrOf result StoreFault.Disk → D.faults disk.new ≡ D.faults disk.old }
 {
     let len = disk.len(FileNo::Blocks)?;
     read_over(alloc, disk, slot, len)
@@ -63,6 +65,8 @@ fn read_over<D: Disk>(
     ensures place { D.place disk.new ≡ D.place disk.old }
     ensures later { D.faults disk.old ≤ D.faults disk.new }
     ensures cause { IsErrOf result StoreFault.Disk → Rose (D.faults disk.old) (D.faults disk.new) }
+    ensures once { CountsOnce (D.faults disk.old) (D.faults disk.new) result }
+    ensures quiet { ¬ IsErrOf result StoreFault.Disk → D.faults disk.new ≡ D.faults disk.old }
 {
     let (journal, records) = match open(alloc, disk, slot) {
         Ok(opened) => opened,

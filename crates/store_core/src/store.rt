@@ -1,14 +1,15 @@
 //! The store.
-ghost use Rattle.std.specs.Prelude.{◌≡◌, ◌⊎◌, ◌≤◌, ℕ, [], true, false, is_some, length, List, Option, None, Some, IsTrue, IfOk, IfErr, OnOk, OnErr, IsErrOf};
+ghost use Rattle.std.specs.Prelude.{◌≡◌, ◌≢◌, ◌⊎◌, ◌≤◌, ℕ, [], true, false, is_some, length, List, Option, None, Some, IsTrue, IfOk, IfSome, IfErr, OnOk, OnErr, IsErrOf};
 ghost use Rattle.std.specs.Option.{option_to_list};
 ghost use Rattle.byte_formats.specs.Spelling.{Spells};
 ghost use Rattle.cmd_codec.specs.Commands.{HasSpelling, command};
 ghost use Rattle.fh_model.specs.History.{state_of, next_of, reply_of};
 ghost use Rattle.fh_model.specs.Pieces.{AreHeld, SamePieces, blocks_with, block_in, data_of, end_in, named_in, piece_of};
 ghost use Rattle.fh_model.specs.Step.{step};
-ghost use Rattle.fh_world.specs.Causes.{Rose};
+ghost use Rattle.fh_world.specs.Causes.{CountsOnce, Rose};
 ghost use Rattle.fh_world.specs.declared.FileNo.TheVariants.{Blocks};
 ghost use Rattle.fh_world.specs.Disk.{LeavesOnly, Rests};
+ghost use Rattle.sha2.specs.Sha256.{sha256};
 ghost use Rattle.store_core.specs.Commit.{BeginsWith, StandsAround, IsAsBefore, IsFinished, IsFaulted, IsFetched, placed_in};
 ghost use Rattle.store_core.specs.Files.{contents, StandsOrNew, KeepsMeaning};
 ghost use Rattle.store_core.specs.Open.{disk_left, IsSaid, LeavesMeaning};
@@ -19,7 +20,7 @@ use crate::putting::{data_of, placed, put};
 use crate::{CommitFault, FetchFault, StoreFault};
 use block_file::get;
 use cmd_codec::encode;
-use fh_model::{BLOCK_BYTES, Cmd, NoMemory, Piece, Reply};
+use fh_model::{BLOCK_BYTES, Bytes32, Cmd, NoMemory, Piece, Reply};
 use fh_world::Disk;
 use gate_journal::{AppendFault, Journal, Record, frame};
 use name_core::Image;
@@ -65,6 +66,9 @@ impl<D: Disk> Store<D> {
         ensures place { D.place (disk_left result) ≡ D.place disk }
         ensures later { D.faults disk ≤ D.faults (disk_left result) }
         ensures cause { IfErr result (λ refused. refused.1 ≡ StoreFault.Disk → Rose (D.faults disk) (D.faults refused.0)) }
+        ensures once { CountsOnce (D.faults disk) (D.faults (disk_left result)) result }
+        // A fault of the disk is told as nothing else.
+        ensures quiet { IfErr result (λ refused. refused.1 ≢ StoreFault.Disk → D.faults refused.0 ≡ D.faults disk) }
     {
         let mut disk = disk;
         match open_on(alloc, &mut disk) {
@@ -82,12 +86,19 @@ impl<D: Disk> Store<D> {
 
     /// Lets a command in with its data, at most `BLOCK_BYTES` bytes, where none waits. Its `at` is at most
     /// `LAST_SECOND`, and its texts are shorter than 2^32 bytes. The piece of the data is set here: what the act names
-    /// isn't read. A refusal that changes nothing writes nothing. At `Ok` of any other each crash leaves the command,
-    /// and the block file has its data behind the pieces of the state before. At `Disk` it is not let in, or waits.
-    pub fn commit(&mut self, cmd: Cmd, bytes: &[u8]) -> Result<Reply, CommitFault>
+    /// isn't read. `digest` is that of the data where it is known, so that no byte is hashed twice. A refusal that
+    /// changes nothing writes nothing. At `Ok` of any other each crash leaves the command, and the block file has its
+    /// data behind the pieces of the state before. At `Disk` it is not let in, or waits.
+    pub fn commit(
+        &mut self,
+        cmd: Cmd,
+        bytes: &[u8],
+        digest: Option<Bytes32>,
+    ) -> Result<Reply, CommitFault>
         requires idle { self.old.waiting ≡ None }
         requires spelled { HasSpelling cmd }
         requires few { length bytes.now ≤ BLOCK_BYTES }
+        requires digest { IfSome digest (λ known. known.bytes ≡ sha256 bytes.now) }
         ensures reply { IfOk result (λ reply. reply ≡ reply_of (finished self.old) (placed_in self.old bytes.now cmd)) }
         ensures image { OnOk result ((self.new.image ≡ next_of (finished self.old) (placed_in self.old bytes.now cmd)) × (self.new.waiting ≡ None)) }
         ensures fault { OnErr result (IsFaulted self.old (placed_in self.old bytes.now cmd) self.new) }
@@ -107,10 +118,11 @@ impl<D: Disk> Store<D> {
         ensures place { D.place self.new.disk ≡ D.place self.old.disk }
         ensures later { D.faults self.old.disk ≤ D.faults self.new.disk }
         ensures cause { IsErrOf result CommitFault.Disk → Rose (D.faults self.old.disk) (D.faults self.new.disk) }
+        ensures once { CountsOnce (D.faults self.old.disk) (D.faults self.new.disk) result }
     {
         let place = self.next_place();
         let content = data_of(&cmd.act, bytes);
-        self.let_in(placed(cmd, place, bytes), content)
+        self.let_in(placed(cmd, place, bytes, digest), content)
     }
 
     /// Where the next data goes, where no command waits.
@@ -143,6 +155,7 @@ impl<D: Disk> Store<D> {
         ensures place { D.place self.new.disk ≡ D.place self.old.disk }
         ensures later { D.faults self.old.disk ≤ D.faults self.new.disk }
         ensures cause { IsErrOf result CommitFault.Disk → Rose (D.faults self.old.disk) (D.faults self.new.disk) }
+        ensures once { CountsOnce (D.faults self.old.disk) (D.faults self.new.disk) result }
     {
         let (cmd, piece) = placed;
         let (next, reply) = self.image.apply(&cmd)?;
@@ -181,6 +194,7 @@ impl<D: Disk> Store<D> {
         ensures place { D.place self.new.disk ≡ D.place self.old.disk }
         ensures later { D.faults self.old.disk ≤ D.faults self.new.disk }
         ensures cause { OnErr result (Rose (D.faults self.old.disk) (D.faults self.new.disk)) }
+        ensures once { CountsOnce (D.faults self.old.disk) (D.faults self.new.disk) result }
         ensures disk { IfErr result (λ fault. fault ≡ CommitFault.Disk) }
     {
         put(&mut self.disk, self.image.end(), piece, content)?;
@@ -212,6 +226,8 @@ impl<D: Disk> Store<D> {
         ensures place { D.place self.new.disk ≡ D.place self.old.disk }
         ensures later { D.faults self.old.disk ≤ D.faults self.new.disk }
         ensures cause { IsErrOf result FetchFault.Disk → Rose (D.faults self.old.disk) (D.faults self.new.disk) }
+        ensures once { CountsOnce (D.faults self.old.disk) (D.faults self.new.disk) result }
+        ensures quiet { ¬ IsErrOf result FetchFault.Disk → D.faults self.new.disk ≡ D.faults self.old.disk }
     {
         let piece = piece_at(&self.image, rev, block)?;
         let spare = replace(&mut self.spare, Vec::new(self.alloc));
@@ -269,7 +285,7 @@ fn piece_at(image: &Image, rev: u64, block: u32) -> Result<Piece, FetchFault>
 }
 
 /// A buffer of so many bytes. That of another one is used again where it is as large: to fill a new one with zeros takes
-/// a third of the time that it takes to read a block into it.
+/// a fifth to a third of the time that it takes to read a block into it.
 fn room_of(alloc: Global, len: usize, spare: Vec<u8>) -> Result<Vec<u8>, AllocError>
     ensures { IfOk result (λ bytes. length bytes.items ≡ len) }
 {

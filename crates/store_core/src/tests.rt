@@ -37,7 +37,7 @@ fn make<D: Disk>(alloc: Global, store: &mut Store<D>, path: &str) -> Option<bool
     if !has_spelling(&cmd) {
         return None;
     }
-    match store.commit(cmd, b"") {
+    match store.commit(cmd, b"", None) {
         Ok(Reply::Entry(_)) => Some(true),
         Ok(Reply::Refused(_)) => Some(false),
         Err(_) => None,
@@ -74,7 +74,7 @@ fn send<D: Disk>(alloc: Global, store: &mut Store<D>, path: &str, bytes: &[u8]) 
     if !has_spelling(&cmd) || bytes.len() > BLOCK_BYTES {
         return None;
     }
-    match store.commit(cmd, bytes) {
+    match store.commit(cmd, bytes, None) {
         Ok(Reply::Entry(Entry::File { meta, .. })) => Some(meta.rev),
         Ok(Reply::Entry(Entry::Folder { .. })) => None,
         Ok(Reply::Refused(_)) => Some(0),

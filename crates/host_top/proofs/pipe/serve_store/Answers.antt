@@ -1,5 +1,6 @@
-use Rattle.std.proofs.Common.{refl}
+use Rattle.std.proofs.Common.{refl, ap}
 use Rattle.host_seat.specs.RunLaws.{ran_nothing}
+use Rattle.host_top.specs.Status.{status_of}
 use Rattle.host_top.proofs.Ends.{nothing_served}
 use Rattle.host_top.proofs.pipe.serve_store.Goals as goal
 
@@ -21,3 +22,18 @@ returns-clause-served g c =
       served = rw (c.new-port.ensures, c.in-Ok.ensures.ends.0, c.in-Ok.ensures.ends.1) at connection.served;
       ran = rw c.new-port.ensures at connection.went;
     })
+
+pub returns-clause-read_told : goal.returns-clause-read_told
+returns-clause-read_told g c =
+    let told = c.serve_conn-end.ensures.read_told in
+    rw (c.into_ends-input.ensures.source, c.status_of.ensures) (λ other. rw c.in-Ok.ensures.ends.0 at told (λ e. other (ap status_of e)))
+
+pub returns-clause-write_told : goal.returns-clause-write_told
+returns-clause-write_told g c =
+    let told = c.serve_conn-end.ensures.write_told in
+    rw (c.into_ends-input.ensures.sink, c.status_of.ensures) (λ other. rw c.in-Ok.ensures.ends.1 at told (λ e. other (ap status_of e)))
+
+pub returns-clause-disk_told : goal.returns-clause-disk_told
+returns-clause-disk_told g c =
+    let told = c.serve_conn-end.ensures.disk_told in
+    rw (c.into_store-2.ensures, c.status_of.ensures) (λ other. rw c.new-port.ensures at told (λ e. other (ap status_of e)))

@@ -8,4 +8,5 @@ invariant-requests g l = record {
   standing : l.reader.state ≡ Between;
   so_far : RequestsSoFar g.S.Source.given g.S.Source.left l.initial.source l.source l.initial.reader.held l.reader.held
       l.initial.content.items l.content.items l.whole;
+  faults_are : g.S.Source.faults l.source ≡ g.S.Source.faults l.initial.source;
 }

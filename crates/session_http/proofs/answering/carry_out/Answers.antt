@@ -28,7 +28,7 @@ returns-in_ok-text-in-Refused-clause-ok g c content is =
     let P = g.P.View in let port = c.args.port.now in
     let text : List ℕ = c.in_ok-text-in-Refused.text.items in
     let D : Decision → Type 0 = λ d. Acts P.alone (P.number port) c.args.at (P.seen port) (P.seen port) (P.blocks port) (P.blocks port) d c.args.close text in
-    subst D (sym (rw c.in-Refused.is at c.in_ok-text.ensures content is))
+    subst D (sym (rw c.in-Refused.is at c.in_ok-text.ensures.decision content is))
     (acts_said P.alone (P.number port) c.args.at (P.seen port) (P.blocks port) (plain 400 c.in-Refused.text.items) c.args.close text
     (rw c.deref.ensures.value at c.in_ok-text-in-Refused.ensures))
 
@@ -37,11 +37,11 @@ returns-in_ok-text-in-Answered-clause-ok g c content is =
     let P = g.P.View in let port = c.args.port.now in
     let text : List ℕ = c.in_ok-text-in-Answered.text.items in
     let D : Decision → Type 0 = λ d. Acts P.alone (P.number port) c.args.at (P.seen port) (P.seen port) (P.blocks port) (P.blocks port) d c.args.close text in
-    subst D (sym (rw c.in-Answered.is at c.in_ok-text.ensures content is))
+    subst D (sym (rw c.in-Answered.is at c.in_ok-text.ensures.decision content is))
     (acts_said P.alone (P.number port) c.args.at (P.seen port) (P.blocks port) (answered c.in-Answered.answer) c.args.close text c.in_ok-text-in-Answered.ensures)
 
 pub returns-in_ok-answered-in-Load-clause-ok : goal.returns-in_ok-answered-in-Load-clause-ok
 returns-in_ok-answered-in-Load-clause-ok g c content is =
     let P = g.P.View in let port = c.args.port.now in let new = c.load.new.port in
     let D : Decision → Type 0 = λ d. Answers P.alone (P.number port) c.args.at (P.seen port) (P.seen new) (P.blocks port) (P.blocks new) d c.args.close c.in_ok-answered-in-Load.answered in
-    subst D (sym (rw c.in-Load.is at c.in_ok-text.ensures content is)) (c.in_ok-answered-in-Load.ensures.ok (P.number port) c.args.at)
+    subst D (sym (rw c.in-Load.is at c.in_ok-text.ensures.decision content is)) (c.in_ok-answered-in-Load.ensures.ok (P.number port) c.args.at)

@@ -23,7 +23,7 @@ portions-init g c =
       room = omega arith;
       few = few_none c.args.buffer.now.items c.requires.empty;
       place = refl;
-      later = omega arith;
+      faults_are = refl;
     }
 
 pub portions-preserved : goal.portions-preserved
@@ -43,7 +43,7 @@ portions-preserved g c =
       room = omega (arith, c.portions.invariant.room, c.keep-body.ensures.room);
       few = c.keep-body.ensures.few;
       place = c.body.ensures.place ∙ c.portions.invariant.place;
-      later = omega (arith, c.portions.invariant.later, c.body.ensures.later);
+      faults_are = c.in-Bytes.ensures.told (λ e. cc) ∙ c.portions.invariant.faults_are;
     }
 
 pub returns-in-Done-clause-read : goal.returns-in-Done-clause-read

@@ -10,5 +10,5 @@ invariant-portions g l = record {
   room : vec_capacity l.initial.buffer ≤ vec_capacity l.buffer;
   few : length l.buffer.items ≤ BLOCK_BYTES;
   place : g.S.Source.place l.source ≡ g.S.Source.place l.initial.source;
-  later : g.S.Source.faults l.initial.source ≤ g.S.Source.faults l.source;
+  faults_are : g.S.Source.faults l.source ≡ g.S.Source.faults l.initial.source;
 }

@@ -1,4 +1,4 @@
-use Rattle.std.proofs.Common.{◌≡◌, ℕ, ◌++◌, ◌∙◌, ap, subst, vec_capacity}
+use Rattle.std.proofs.Common.{◌≡◌, ℕ, ◌++◌, ◌∙◌, ap, refl, subst, vec_capacity}
 use Rattle.session_rules.specs.Connection.{interim_of}
 use Rattle.session_rules.specs.Replies.{bad_request, body_too_large}
 use Rattle.session_http.specs.Bodies.{GoneOnlyFor}
@@ -142,3 +142,30 @@ returns-in-Unread-clause-err g c =
     begun.reader.held c.read_body-end.new.reader.held c.read_body-end.ensures.later in
     stops_memory t old mid now (called_if c.in-Ok.opened.call) c.in-Ok.opened.head c.in-Ok.ensures.ok begun.reader.state c.in-Ok.ensures.inside
     read.place read.inside read.fresh read.added body.content read.moves.gave read.moves.took by read.gained
+
+pub returns-in-Done-clause-read_told : goal.returns-in-Done-clause-read_told
+returns-in-Done-clause-read_told g c = c.read_body-end.ensures.told (λ e. let is = c.in-Done.is in cc) ∙ c.in-Ok.ensures.read_told
+
+pub returns-in-Cut-clause-read_told : goal.returns-in-Cut-clause-read_told
+returns-in-Cut-clause-read_told g c = λ _. c.read_body-end.ensures.told (λ e. let is = c.in-Cut.is in cc) ∙ c.in-Ok.ensures.read_told
+
+pub returns-in-Bad-clause-read_told : goal.returns-in-Bad-clause-read_told
+returns-in-Bad-clause-read_told g c = λ _. c.read_body-end.ensures.told (λ e. let is = c.in-Bad.is in cc) ∙ c.in-Ok.ensures.read_told
+
+pub returns-in-TooLarge-clause-read_told : goal.returns-in-TooLarge-clause-read_told
+returns-in-TooLarge-clause-read_told g c = λ _. c.read_body-end.ensures.told (λ e. let is = c.in-TooLarge.is in cc) ∙ c.in-Ok.ensures.read_told
+
+pub returns-in-NoMemory-clause-read_told : goal.returns-in-NoMemory-clause-read_told
+returns-in-NoMemory-clause-read_told g c = λ _. c.read_body-end.ensures.told (λ e. let is = c.in-NoMemory.is in cc) ∙ c.in-Ok.ensures.read_told
+
+pub returns-in-Unread-clause-read_told : goal.returns-in-Unread-clause-read_told
+returns-in-Unread-clause-read_told g c = λ _. c.read_body-end.ensures.told (λ e. let is = c.in-Unread.is in cc) ∙ c.in-Ok.ensures.read_told
+
+pub returns-in-ReadFault-clause-read_told : goal.returns-in-ReadFault-clause-read_told
+returns-in-ReadFault-clause-read_told g c = λ other. absurd (other refl)
+
+pub returns-in-Bad-clause-write_told : goal.returns-in-Bad-clause-write_told
+returns-in-Bad-clause-write_told g c = λ other. c.refuse.ensures.told other ∙ c.in-Ok.ensures.write_told
+
+pub returns-in-TooLarge-clause-write_told : goal.returns-in-TooLarge-clause-write_told
+returns-in-TooLarge-clause-write_told g c = λ other. c.refuse-in-TooLarge.ensures.told other ∙ c.in-Ok.ensures.write_told

@@ -1,4 +1,4 @@
-use Rattle.std.proofs.Common.{refl, ◌∙◌, arith}
+use Rattle.std.proofs.Common.{refl, ◌∙◌}
 use Rattle.session_http.proofs.Sends.{breaks_fetch, breaks_head, breaks_write, has_block, sends_head, sends_on}
 use Rattle.session_http.proofs.sending.send.Goals as goal
 
@@ -17,10 +17,10 @@ pieces-init g c =
       sends = λ meta is. sends_head K.held P.alone (P.seen port) (P.blocks port) c.args.sink.now c.write.new.sink c.args.head.now meta.pieces c.in-Ok.ensures.ok;
       waits = refl;
       number = refl;
-      port_later = omega arith;
+      port_faults = refl;
       went = g.met.P.View.nothing port;
       place = c.write.ensures.place;
-      later = c.write.ensures.later;
+      sink_faults = c.in-Ok.ensures.told;
     }
 
 pub fetch-requires : goal.fetch-requires
@@ -65,8 +65,17 @@ pieces-preserved g c =
           c.write-in-pieces.new.sink c.in-Ok-fetch.bytes.items c.in-Ok-fetch.ensures.bytes wrote;
       waits = c.fetch.ensures.waits ∙ so.waits;
       number = c.fetch.ensures.number ∙ so.number;
-      port_later = omega (arith, so.port_later, c.fetch.ensures.later);
+      port_faults = c.in-Ok-fetch.ensures.told ∙ so.port_faults;
       went = g.met.P.View.on old mid new so.went c.fetch.ensures.went;
       place = c.write-in-pieces.ensures.place ∙ so.place;
-      later = omega (arith, so.later, c.write-in-pieces.ensures.later);
+      sink_faults = c.in-Ok-write.ensures.told ∙ so.sink_faults;
     })
+
+pub returns-in-Err-fetch-clause-disk_told : goal.returns-in-Err-fetch-clause-disk_told
+returns-in-Err-fetch-clause-disk_told g c = λ other. c.in-Err-fetch.ensures.told other ∙ c.pieces.invariant.port_faults
+
+pub returns-in-Err-write-clause-disk_told : goal.returns-in-Err-write-clause-disk_told
+returns-in-Err-write-clause-disk_told g c = λ _. c.in-Ok-fetch.ensures.told ∙ c.pieces.invariant.port_faults
+
+pub returns-in-Err-write-clause-write_told : goal.returns-in-Err-write-clause-write_told
+returns-in-Err-write-clause-write_told g c = λ other. c.in-Err-write.ensures.told other ∙ c.pieces.invariant.sink_faults

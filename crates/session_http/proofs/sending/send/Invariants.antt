@@ -1,4 +1,4 @@
-use Rattle.std.proofs.Common.{◌≡◌, ◌≤◌, take}
+use Rattle.std.proofs.Common.{◌≡◌, take}
 use Rattle.fh_model.specs.declared.files.FileMeta.{FileMeta}
 use Rattle.fh_model.specs.History.{state_of}
 use Rattle.session_http.specs.Sending.{IsVersion, SendsOn}
@@ -12,8 +12,8 @@ invariant-pieces g l =
           → SendsOn P.alone (P.seen l.fn.port) (P.seen l.port) (P.blocks l.fn.port) (P.blocks l.port) K.held l.fn.sink l.sink l.head (take l.block meta.pieces);
       waits : P.waits l.port ≡ P.waits l.fn.port;
       number : P.number l.port ≡ P.number l.fn.port;
-      port_later : P.faults l.fn.port ≤ P.faults l.port;
+      port_faults : P.faults l.port ≡ P.faults l.fn.port;
       went : P.went l.fn.port l.port;
       place : K.place l.sink ≡ K.place l.fn.sink;
-      later : K.faults l.fn.sink ≤ K.faults l.sink;
+      sink_faults : K.faults l.sink ≡ K.faults l.fn.sink;
     }

@@ -15,12 +15,12 @@ requests-init g c =
       so_far = subst R (sym c.requires.unread.unread) (subst Q (sym c.requires.unread.none) (so_far_starts t before));
       between = c.requires.unread.between;
       few = omega (arith, c.requires.unread.none);
-      port_later = omega arith;
+      port_faults = refl;
       went = g.met.P.View.nothing c.args.port.now;
       source_place = refl;
       sink_place = refl;
-      source_later = omega arith;
-      sink_later = omega arith;
+      source_faults = refl;
+      sink_faults = refl;
       second = refl;
     }
 
@@ -40,12 +40,12 @@ requests-preserved g c =
       so_far = so_far_on t before mid now so_far.so_far one.turn one.turned told.counted (one.asked ∙ ap not c.in-Ok-true.field-0-test);
       between = told.between;
       few = omega (arith, told.counted, c.requests-test.true);
-      port_later = omega (arith, so_far.port_later, told.port_later);
+      port_faults = told.disk_told ∙ so_far.port_faults;
       went = g.met.P.View.on c.args.port.now c.requests.port c.serve_one.new.port so_far.went told.went;
       source_place = told.source_place ∙ so_far.source_place;
       sink_place = told.sink_place ∙ so_far.sink_place;
-      source_later = omega (arith, so_far.source_later, told.source_later);
-      sink_later = omega (arith, so_far.sink_later, told.sink_later);
+      source_faults = told.read_told ∙ so_far.source_faults;
+      sink_faults = told.write_told ∙ so_far.sink_faults;
       second = told.second ∙ so_far.second;
     }
 
@@ -94,3 +94,30 @@ returns-clause-served g c =
     let before = moment P S K c.args.port.now c.args.conn.now.source c.args.conn.now.sink 0 [] in
     let mid = moment P S K c.requests.port conn.source conn.sink conn.answered conn.reader.held in
     serve_full t before mid c.requests.invariant.so_far (omega (arith, c.requests.invariant.few, c.requests-test.false))
+
+pub returns-in-Ok-false-clause-read_told : goal.returns-in-Ok-false-clause-read_told
+returns-in-Ok-false-clause-read_told g c = λ _. c.in-Ok-false.ensures.read_told ∙ c.requests.invariant.source_faults
+
+pub returns-in-Ok-false-2-clause-read_told : goal.returns-in-Ok-false-2-clause-read_told
+returns-in-Ok-false-2-clause-read_told g c = λ _. c.in-Ok-false.ensures.read_told ∙ c.requests.invariant.source_faults
+
+pub returns-in-Err-clause-read_told : goal.returns-in-Err-clause-read_told
+returns-in-Err-clause-read_told g c = λ other. c.in-Err.ensures.read_told other ∙ c.requests.invariant.source_faults
+
+pub returns-in-Ok-false-clause-write_told : goal.returns-in-Ok-false-clause-write_told
+returns-in-Ok-false-clause-write_told g c = λ _. c.in-Ok-false.ensures.write_told ∙ c.requests.invariant.sink_faults
+
+pub returns-in-Ok-false-2-clause-write_told : goal.returns-in-Ok-false-2-clause-write_told
+returns-in-Ok-false-2-clause-write_told g c = λ _. c.in-Ok-false.ensures.write_told ∙ c.requests.invariant.sink_faults
+
+pub returns-in-Err-clause-write_told : goal.returns-in-Err-clause-write_told
+returns-in-Err-clause-write_told g c = λ other. c.in-Err.ensures.write_told other ∙ c.requests.invariant.sink_faults
+
+pub returns-in-Ok-false-clause-disk_told : goal.returns-in-Ok-false-clause-disk_told
+returns-in-Ok-false-clause-disk_told g c = λ _. c.in-Ok-false.ensures.disk_told ∙ c.requests.invariant.port_faults
+
+pub returns-in-Ok-false-2-clause-disk_told : goal.returns-in-Ok-false-2-clause-disk_told
+returns-in-Ok-false-2-clause-disk_told g c = λ _. c.in-Ok-false.ensures.disk_told ∙ c.requests.invariant.port_faults
+
+pub returns-in-Err-clause-disk_told : goal.returns-in-Err-clause-disk_told
+returns-in-Err-clause-disk_told g c = λ other. c.in-Err.ensures.disk_told other ∙ c.requests.invariant.port_faults

@@ -12,12 +12,12 @@ invariant-requests g l =
           (moment P S K l.port l.conn.source l.conn.sink l.conn.answered l.conn.reader.held);
       between : l.conn.reader.state ≡ Between;
       few : l.conn.answered ≤ 1000000;
-      port_later : P.faults l.fn.port ≤ P.faults l.port;
+      port_faults : P.faults l.port ≡ P.faults l.fn.port;
       went : P.went l.fn.port l.port;
       source_place : S.place l.conn.source ≡ S.place l.fn.conn.source;
       sink_place : K.place l.conn.sink ≡ K.place l.fn.conn.sink;
-      source_later : S.faults l.fn.conn.source ≤ S.faults l.conn.source;
-      sink_later : K.faults l.fn.conn.sink ≤ K.faults l.conn.sink;
+      source_faults : S.faults l.conn.source ≡ S.faults l.fn.conn.source;
+      sink_faults : K.faults l.conn.sink ≡ K.faults l.fn.conn.sink;
       second : g.C.Clock.second l.clock ≡ g.C.Clock.second l.fn.clock;
     }
 

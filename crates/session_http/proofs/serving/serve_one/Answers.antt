@@ -314,3 +314,48 @@ returns-clause-err g c =
     let failed = disk h.asked.content h.holds (ap Err c.in-Err-Disk.field-0-is) in
     serve_stuck t old mid now (called_as c.in-Ok-call.call) heard.last arg heard.body kept h heard.at c.in-Ok.ensures.timed failed.0 refl refl refl c.in-Err-Disk.ensures.number
     failed.1 c.requires.few
+
+pub returns-in-Ok-write-clause-write_told : goal.returns-in-Ok-write-clause-write_told
+returns-in-Ok-write-clause-write_told g c = c.in-Ok-write.ensures.told ∙ c.in-Ok.ensures.write_told
+
+pub returns-in-Err-write-clause-write_told : goal.returns-in-Err-write-clause-write_told
+returns-in-Err-write-clause-write_told g c = λ other. c.in-Err-write.ensures.told other ∙ c.in-Ok.ensures.write_told
+
+pub returns-in-Ok-write-2-clause-write_told : goal.returns-in-Ok-write-2-clause-write_told
+returns-in-Ok-write-2-clause-write_told g c = c.in-Ok-write-2.ensures.told ∙ c.in-Ok.ensures.write_told
+
+pub returns-in-Ok-Text-clause-write_told : goal.returns-in-Ok-Text-clause-write_told
+returns-in-Ok-Text-clause-write_told g c = λ other. c.in-Err-write-2.ensures.told other ∙ c.in-Ok.ensures.write_told
+
+pub returns-in-Ok-write-3-clause-write_told : goal.returns-in-Ok-write-3-clause-write_told
+returns-in-Ok-write-3-clause-write_told g c = c.in-Ok-write-3.ensures.told ∙ c.in-Ok.ensures.write_told
+
+pub returns-in-Err-NoMemory-clause-write_told : goal.returns-in-Err-NoMemory-clause-write_told
+returns-in-Err-NoMemory-clause-write_told g c = λ other. c.in-Err-write-3.ensures.told other ∙ c.in-Ok.ensures.write_told
+
+pub returns-in-Ok-send-clause-write_told : goal.returns-in-Ok-send-clause-write_told
+returns-in-Ok-send-clause-write_told g c = c.in-Ok-send.ensures.write_told ∙ c.in-Ok.ensures.write_told
+
+pub returns-in-Ok-Content-clause-write_told : goal.returns-in-Ok-Content-clause-write_told
+returns-in-Ok-Content-clause-write_told g c = λ other. c.in-Err-send.ensures.write_told other ∙ c.in-Ok.ensures.write_told
+
+pub returns-in-Ok-write-2-clause-disk_told : goal.returns-in-Ok-write-2-clause-disk_told
+returns-in-Ok-write-2-clause-disk_told g c = c.in-Ok-Text.ensures.told (λ e. cc) ∙ c.receive.ensures.disk_told
+
+pub returns-in-Ok-Text-clause-disk_told : goal.returns-in-Ok-Text-clause-disk_told
+returns-in-Ok-Text-clause-disk_told g c = λ _. c.in-Ok-Text.ensures.told (λ e. cc) ∙ c.receive.ensures.disk_told
+
+pub returns-in-Ok-send-clause-disk_told : goal.returns-in-Ok-send-clause-disk_told
+returns-in-Ok-send-clause-disk_told g c = c.in-Ok-send.ensures.disk_told ∙ c.in-Ok-Content.ensures.told (λ e. cc) ∙ c.receive.ensures.disk_told
+
+pub returns-in-Ok-Content-clause-disk_told : goal.returns-in-Ok-Content-clause-disk_told
+returns-in-Ok-Content-clause-disk_told g c = λ other. c.in-Err-send.ensures.disk_told other ∙ c.in-Ok-Content.ensures.told (λ e. cc) ∙ c.receive.ensures.disk_told
+
+pub returns-in-Ok-write-3-clause-disk_told : goal.returns-in-Ok-write-3-clause-disk_told
+returns-in-Ok-write-3-clause-disk_told g c = c.in-Err-NoMemory.ensures.told (memory_is_no_disk c.in-Err-NoMemory.field-0 c.in-Err-NoMemory.field-0-is) ∙ c.receive.ensures.disk_told
+
+pub returns-in-Err-NoMemory-clause-disk_told : goal.returns-in-Err-NoMemory-clause-disk_told
+returns-in-Err-NoMemory-clause-disk_told g c = λ _. c.in-Err-NoMemory.ensures.told (memory_is_no_disk c.in-Err-NoMemory.field-0 c.in-Err-NoMemory.field-0-is) ∙ c.receive.ensures.disk_told
+
+pub returns-clause-disk_told : goal.returns-clause-disk_told
+returns-clause-disk_told g c = λ other. absurd (other refl)

@@ -7,9 +7,9 @@ use Rattle.name_core.proofs.image.Image.forget.Goals as goal
 
 pub invariant_of-result : goal.invariant_of-result
 invariant_of-result c =
-    let kept : Kept = record { start = c.self.inside.start; history = c.self.inside.history.items } in
+    let kept : Kept = record { start = c.self.inside.start; history = c.self.inside.history } in
     let begins : c.in_ok-start.start ≡ state_of kept = c.in_ok-start.ensures ∙ c.self.invariant.now in
-    let none : c.in_ok-history.history.items ≡ [] = search rules in
+    let none : c.in_ok-history.history ≡ [] = search rules in
     let same : c.in_ok-machine.machine ≡ c.in_ok-start.start = c.in_ok-machine.ensures ∙ sym c.in_ok-start.ensures in
     record {
       now = same ∙ sym (ap (λ (list : List Cmd). state_after c.in_ok-start.start list) none);

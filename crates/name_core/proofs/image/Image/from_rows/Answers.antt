@@ -13,7 +13,7 @@ invariant_of-result c =
     let is : state_of_rows c.args.rows.now ≡ Ok read = search rules in
     let machine : c.in_ok-machine.machine ≡ read = search rules in
     let start : c.in_ok-start.start ≡ c.in_ok-machine.machine = search rules in
-    let none : c.in_ok-history.history.items ≡ [] = search rules in
+    let none : c.in_ok-history.history ≡ [] = search rules in
     record {
       now = sym start ∙ sym (ap (λ (list : List Cmd). state_after c.in_ok-start.start list) none);
       files = subst KeepsFiles (sym (start ∙ machine)) (rows_keep_files c.args.rows.now read is);

@@ -16,7 +16,7 @@ returns-clause-file c =
     let s = state_of c.args.self.now in
     let user = c.args.user in
     let path = c.args.path.now in
-    let kept : Kept = record { start = c.self.inside.start; history = c.self.inside.history.items } in
+    let kept : Kept = record { start = c.self.inside.start; history = c.self.inside.history } in
     let keeps : KeepsFiles s = rw (← c.self.view_is) (kept_keeps_files kept c.self.invariant.files) in
     let is : IfOk c.resolve.result (λ there. resolve s user path ≡ found there) = search rules in
     IfOk-weaker c.resolve.result (λ there. resolve s user path ≡ found there)

@@ -23,7 +23,7 @@ returns-in-Some c =
     let i = c.loop-number.number-index in
     let item = c.in-Some.item.now in
     let first : find (λ item. id_of item.node == id) (tree_in s (get_or numbers i 0)) ≡ Some item =
-    ap (λ (tree : List Item). find (λ item. id_of item.node == id) tree) (sym c.tree.ensures) ∙ sym c.in-Some.ensures in
+    ap (λ (tree : List Item). find (λ item. id_of item.node == id) tree) (sym c.tree.ensures.items) ∙ sym c.in-Some.ensures in
     let names = c.in_ok-names.ensures ∙ ap (λ (item : Item). item.names) c.deref.ensures in
     ap (λ (names : List Name). Some (record { ns = get_or numbers i 0; names = names })) names
     ∙ here s id numbers i item c.loop-number-test.true first ∙ c.loop-number.invariant
