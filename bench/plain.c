@@ -1,7 +1,8 @@
 /* The plain loops that bench/contents.py sets beside `filehost pipe`: each does its work and prints the seconds that it took.
 
-   plain commits FOLDER COUNT DATA RECORD   COUNT times: DATA bytes behind the end of one file, fdatasync; RECORD bytes behind
-                                            the gate at the end of a second file, fdatasync; the gate, fdatasync
+   plain commits FOLDER DATA RECORD         for each COUNT that it reads from its input, COUNT times: DATA bytes behind the end of
+                                            one file, fdatasync; RECORD bytes behind the gate at the end of a second file,
+                                            fdatasync; the gate, fdatasync
    plain writes FOLDER COUNT BYTES          COUNT times: BYTES bytes behind the end of a file, fdatasync
    plain reads FILE COUNT BYTES             COUNT times: BYTES bytes of the file, from its start on and then again, are read and
                                             written to /dev/null
@@ -43,18 +44,22 @@ static void put(int file, const char *bytes, size_t count, off_t at) {
   if (fdatasync(file) != 0) fail("fdatasync");
 }
 
-static void commits(const char *folder, long count, size_t data, size_t record, const char *bytes) {
+static void commits(const char *folder, size_t data, size_t record, const char *bytes) {
   int blocks = open_in(folder, "plain_blocks"), slot = open_in(folder, "plain_slot");
   char closed = 0, open_gate = (char)0xa5;
   put(slot, &closed, 1, 0);
-  double begun = now();
-  for (long i = 0; i < count; i++) {
-    off_t gate = (off_t)(i * record);
-    put(blocks, bytes, data, (off_t)(i * data));
-    put(slot, bytes, record, gate + 1);
-    put(slot, &open_gate, 1, gate);
+  long done = 0, count;
+  while (scanf("%ld", &count) == 1) {
+    double begun = now();
+    for (long end = done + count; done < end; done++) {
+      off_t gate = (off_t)(done * record);
+      put(blocks, bytes, data, (off_t)(done * data));
+      put(slot, bytes, record, gate + 1);
+      put(slot, &open_gate, 1, gate);
+    }
+    printf("%.9f\n", now() - begun);
+    fflush(stdout);
   }
-  printf("%.9f\n", now() - begun);
 }
 
 static void writes(const char *folder, long count, size_t size, const char *bytes) {
@@ -79,15 +84,16 @@ static void reads(const char *path, long count, size_t size, char *bytes) {
 }
 
 int main(int argc, char **argv) {
-  if (argc < 5) return 2;
+  if (argc != 5) return 2;
+  int is_commits = strcmp(argv[1], "commits") == 0;
   long count = atol(argv[3]);
-  size_t size = (size_t)atol(argv[4]), record = argc > 5 ? (size_t)atol(argv[5]) : 0;
+  size_t size = (size_t)atol(is_commits ? argv[3] : argv[4]), record = is_commits ? (size_t)atol(argv[4]) : 0;
   char *bytes = malloc(size + record + 1);
   if (bytes == NULL) return 5;
   memset(bytes, 'a', size + record + 1);
-  if (strcmp(argv[1], "commits") == 0 && argc == 6) commits(argv[2], count, size, record, bytes);
-  else if (strcmp(argv[1], "writes") == 0 && argc == 5) writes(argv[2], count, size, bytes);
-  else if (strcmp(argv[1], "reads") == 0 && argc == 5) reads(argv[2], count, size, bytes);
+  if (is_commits) commits(argv[2], size, record, bytes);
+  else if (strcmp(argv[1], "writes") == 0) writes(argv[2], count, size, bytes);
+  else if (strcmp(argv[1], "reads") == 0) reads(argv[2], count, size, bytes);
   else return 2;
   return 0;
 }

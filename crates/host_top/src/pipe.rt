@@ -1,4 +1,4 @@
-ghost use Rattle.std.specs.Prelude.{◌≡◌, ◌≢◌, ◌⊎◌, ◌≤◌, [], List, ℕ, None, IsTrue, map, string_bytes};
+ghost use Rattle.std.specs.Prelude.{◌≡◌, ◌≢◌, ◌⊎◌, ◌≤◌, ◌+◌, [], List, ℕ, None, IsTrue, map, string_bytes};
 ghost use Rattle.fh_model.specs.State.{State};
 ghost use Rattle.fh_world.specs.Bytes.{Moves, Holds};
 ghost use Rattle.fh_world.specs.Causes.{Rose};
@@ -48,6 +48,10 @@ pub fn run_pipe<D: Disk, S: Source, K: Sink, C: Clock>(
     ensures read_told { result ≢ Status.ReadFault → S.faults input.new ≡ S.faults input.old }
     ensures write_told { result ≢ Status.WriteFault → K.faults output.new ≡ K.faults output.old }
     ensures disk_told { result ≢ Status.DiskFault → D.faults disk.new ≡ D.faults disk.old }
+    // Nothing is tried again behind a fault.
+    ensures read_once { S.faults input.new ≤ S.faults input.old + 1 }
+    ensures write_once { K.faults output.new ≤ K.faults output.old + 1 }
+    ensures disk_once { D.faults disk.new ≤ D.faults disk.old + 1 }
     ensures disk_place { D.place disk.new ≡ D.place disk.old }
     ensures input_place { S.place input.new ≡ S.place input.old }
     ensures output_place { K.place output.new ≡ K.place output.old }
@@ -74,6 +78,9 @@ fn serve_words<D: Disk, S: Source, K: Sink, C: Clock>(
     ensures read_told { result ≢ Status.ReadFault → S.faults input.new ≡ S.faults input.old }
     ensures write_told { result ≢ Status.WriteFault → K.faults output.new ≡ K.faults output.old }
     ensures disk_told { result ≢ Status.DiskFault → D.faults disk.new ≡ D.faults disk.old }
+    ensures read_once { S.faults input.new ≤ S.faults input.old + 1 }
+    ensures write_once { K.faults output.new ≤ K.faults output.old + 1 }
+    ensures disk_once { D.faults disk.new ≤ D.faults disk.old + 1 }
     ensures disk_place { D.place disk.new ≡ D.place disk.old }
     ensures input_place { S.place input.new ≡ S.place input.old }
     ensures output_place { K.place output.new ≡ K.place output.old }
@@ -105,6 +112,9 @@ fn serve_lent<D: Disk, S: Source, K: Sink, C: Clock>(
     ensures read_told { result ≢ Status.ReadFault → S.faults input.new ≡ S.faults input.old }
     ensures write_told { result ≢ Status.WriteFault → K.faults output.new ≡ K.faults output.old }
     ensures disk_told { result ≢ Status.DiskFault → D.faults disk.new ≡ D.faults disk.old }
+    ensures read_once { S.faults input.new ≤ S.faults input.old + 1 }
+    ensures write_once { K.faults output.new ≤ K.faults output.old + 1 }
+    ensures disk_once { D.faults disk.new ≤ D.faults disk.old + 1 }
     ensures disk_place { D.place disk.new ≡ D.place disk.old }
     ensures input_place { S.place input.new ≡ S.place input.old }
     ensures output_place { K.place output.new ≡ K.place output.old }
@@ -130,6 +140,9 @@ fn serve_disk<D: Disk, S: Source, K: Sink, C: Clock>(
     ensures read_told { result.0 ≢ Status.ReadFault → S.faults result.2 ≡ S.faults input }
     ensures write_told { result.0 ≢ Status.WriteFault → K.faults result.3 ≡ K.faults output }
     ensures disk_told { result.0 ≢ Status.DiskFault → D.faults result.1 ≡ D.faults disk }
+    ensures read_once { S.faults result.2 ≤ S.faults input + 1 }
+    ensures write_once { K.faults result.3 ≤ K.faults output + 1 }
+    ensures disk_once { D.faults result.1 ≤ D.faults disk + 1 }
     ensures disk_place { D.place result.1 ≡ D.place disk }
     ensures input_place { S.place result.2 ≡ S.place input }
     ensures output_place { K.place result.3 ≡ K.place output }
@@ -151,6 +164,9 @@ fn open_and_serve<D: Disk, S: Source, K: Sink, C: Clock>(
     ensures read_told { result.0 ≢ Status.ReadFault → S.faults result.2 ≡ S.faults input }
     ensures write_told { result.0 ≢ Status.WriteFault → K.faults result.3 ≡ K.faults output }
     ensures disk_told { result.0 ≢ Status.DiskFault → D.faults result.1 ≡ D.faults disk }
+    ensures read_once { S.faults result.2 ≤ S.faults input + 1 }
+    ensures write_once { K.faults result.3 ≤ K.faults output + 1 }
+    ensures disk_once { D.faults result.1 ≤ D.faults disk + 1 }
     ensures disk_place { D.place result.1 ≡ D.place disk }
     ensures input_place { S.place result.2 ≡ S.place input }
     ensures output_place { K.place result.3 ≡ K.place output }
@@ -177,6 +193,9 @@ fn serve_store<D: Disk, S: Source, K: Sink, C: Clock>(
     ensures read_told { result.0 ≢ Status.ReadFault → S.faults result.2 ≡ S.faults input }
     ensures write_told { result.0 ≢ Status.WriteFault → K.faults result.3 ≡ K.faults output }
     ensures disk_told { result.0 ≢ Status.DiskFault → D.faults result.1.disk ≡ D.faults store.disk }
+    ensures read_once { S.faults result.2 ≤ S.faults input + 1 }
+    ensures write_once { K.faults result.3 ≤ K.faults output + 1 }
+    ensures disk_once { D.faults result.1.disk ≤ D.faults store.disk + 1 }
     ensures input_place { S.place result.2 ≡ S.place input }
     ensures output_place { K.place result.3 ≡ K.place output }
 {

@@ -1,5 +1,6 @@
+use crate::tests::{applied, fresh, put_number, put_shown, replied, settled, text};
 use crate::{Image, LookFault};
-use fh_model::{Act, Cmd, Entry, Found, Members, Name, Node, Reply, Row, Text};
+use fh_model::{Act, Cmd, Found, Members, Name, Node, Row, Text};
 use std::test::*;
 
 /// A path that a folder is made at, and the reply: the new id with the shown names, or the tags of the refusal.
@@ -50,10 +51,6 @@ const FOUND: [(&str, &str); 19] = [
     ("ids", "malformed"),
 ];
 
-fn text(rt: HostRuntime, text: &str) -> Result<Text, Fail> {
-    Ok(Text::new(String::from_str(rt.alloc(), text)?))
-}
-
 fn make(rt: HostRuntime, user: u64, path: &str) -> Result<Cmd, Fail> {
     let act = Act::MakeFolder {
         user,
@@ -67,14 +64,6 @@ fn make(rt: HostRuntime, user: u64, path: &str) -> Result<Cmd, Fail> {
     })
 }
 
-fn put_shown(line: &mut String, names: &[Name]) -> Result<(), Fail> {
-    for name in names {
-        line.push_str("/")?;
-        line.push_str(name.shown.as_str())?;
-    }
-    Ok(())
-}
-
 fn put_folded(line: &mut String, names: &[Name]) -> Result<(), Fail> {
     for name in names {
         line.push_str("/")?;
@@ -83,62 +72,50 @@ fn put_folded(line: &mut String, names: &[Name]) -> Result<(), Fail> {
     Ok(())
 }
 
-fn put_tags(line: &mut String, tags: &[Text]) -> Result<(), Fail> {
-    for tag in tags {
-        line.push_str(tag.as_str())?;
-        line.push_str(".")?;
-    }
-    Ok(())
-}
-
-fn replied(rt: HostRuntime, reply: &Reply) -> Result<String, Fail> {
-    match reply {
-        Reply::Entry(Entry::Folder { names, id }) => {
-            let mut line = format!(in rt.alloc(); "{id}")?;
-            put_shown(&mut line, names.as_slice())?;
-            Ok(line)
-        }
-        Reply::Entry(Entry::File { .. }) => Ok(String::from_str(rt.alloc(), "file")?),
-        Reply::Refused(refusal) => {
-            let mut line = String::new(rt.alloc());
-            put_tags(&mut line, refusal.tags.as_slice())?;
-            Ok(line)
-        }
-    }
-}
-
-fn shown(rt: HostRuntime, there: &Found) -> Result<String, Fail> {
+fn put_found(line: &mut String, there: &Found) -> Result<(), Fail> {
     match &there.node {
         Some(Node::Folder { id }) => {
-            let mut line = format!(in rt.alloc(); "{id}")?;
-            put_shown(&mut line, there.names.as_slice())?;
-            put_folded(&mut line, there.place.names.as_slice())?;
-            Ok(line)
+            put_number(line, *id)?;
+            put_shown(line, there.names.as_slice())?;
+            put_folded(line, there.place.names.as_slice())
         }
-        Some(Node::File(_)) => Ok(String::from_str(rt.alloc(), "file")?),
-        Some(Node::Mount { .. }) => Ok(String::from_str(rt.alloc(), "mount")?),
-        None => Ok(String::from_str(rt.alloc(), "root")?),
+        Some(Node::File(_)) => Ok(line.push_str("file")?),
+        Some(Node::Mount { .. }) => Ok(line.push_str("mount")?),
+        None => Ok(line.push_str("root")?),
+    }
+}
+
+fn word_of(fault: LookFault) -> &'static str {
+    match fault {
+        LookFault::Malformed => "malformed",
+        LookFault::NotFound => "not found",
+        LookFault::NoMemory => "out of memory",
     }
 }
 
 fn looked(rt: HostRuntime, image: &Image, user: u64, path: &str) -> Result<String, Fail> {
+    let mut line = String::new(rt.alloc());
     match image.resolve(user, &text(rt, path)?) {
-        Ok(there) => shown(rt, &there),
-        Err(LookFault::Malformed) => Ok(String::from_str(rt.alloc(), "malformed")?),
-        Err(LookFault::NotFound) => Ok(String::from_str(rt.alloc(), "not found")?),
-        Err(LookFault::NoMemory) => Err("out of memory".into()),
+        Ok(there) => put_found(&mut line, &there)?,
+        Err(fault) => line.push_str(word_of(fault))?,
     }
+    Ok(line)
+}
+
+/// The image after a folder is made. It fails where another reply is wanted.
+fn made_at(rt: HostRuntime, image: &Image, path: &'static str, want: &str) -> Result<Image, Fail> {
+    let (next, reply) = applied(image, &make(rt, 1, path)?)?;
+    if replied(rt, &reply)?.as_str() != want {
+        return Err(path.into());
+    }
+    Ok(next)
 }
 
 /// The image after the folders of the first table. It fails with the first path that is answered otherwise.
 fn made(rt: HostRuntime) -> Result<Image, Fail> {
-    let mut image = Image::empty(rt.alloc())?;
+    let mut image = fresh(rt)?;
     for (path, want) in &MADE {
-        let (next, reply) = image.apply(&make(rt, 1, path)?)?;
-        if replied(rt, &reply)?.as_str() != *want {
-            return Err((*path).into());
-        }
-        image = next;
+        image = made_at(rt, &image, *path, *want)?;
     }
     Ok(image)
 }
@@ -162,11 +139,13 @@ fn paths_lead_to_one_place_however_they_are_cased(rt: HostRuntime) -> Result<(),
 
 #[test]
 fn an_unknown_user_finds_nothing(rt: HostRuntime) -> Result<(), Fail> {
-    let image = Image::empty(rt.alloc())?;
-    assert!(rt; looked(rt, &image, 2, "")?.as_str() == "not found");
-    assert!(rt; looked(rt, &image, 2, "/x/")?.as_str() == "malformed");
-    let reply = image.settle(&make(rt, 2, "/x/")?)?;
-    assert!(rt; replied(rt, &reply)?.as_str() == "user.not_found.");
+    let image = fresh(rt)?;
+    let root = looked(rt, &image, 2, "")?;
+    let malformed = looked(rt, &image, 2, "/x/")?;
+    assert!(rt; root.as_str() == "not found" && malformed.as_str() == "malformed");
+    let reply = settled(&image, &make(rt, 2, "/x/")?)?;
+    let unknown = replied(rt, &reply)?;
+    assert!(rt; unknown.as_str() == "user.not_found.");
     Ok(())
 }
 
@@ -225,9 +204,13 @@ const TOKENS: [(&str, Option<u64>); 3] = [
     ("abcdefghi", None),
 ];
 
+fn two_users(rt: HostRuntime) -> Result<Image, Fail> {
+    Ok(Image::from_rows(rt.alloc(), &rows_of_two(rt)?)?)
+}
+
 #[test]
 fn a_token_is_of_one_user_as_a_whole(rt: HostRuntime) -> Result<(), Fail> {
-    let image = Image::from_rows(rt.alloc(), &rows_of_two(rt)?)?;
+    let image = two_users(rt)?;
     for (token, user) in &TOKENS {
         assert!(rt; image.token_user(token.as_bytes()) == *user);
     }

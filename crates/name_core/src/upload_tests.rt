@@ -1,5 +1,6 @@
 use crate::Image;
-use fh_model::{Act, Bytes32, Cmd, Commit, Entry, Found, Mode, Name, Node, Piece, Reply, Text};
+use crate::tests::{applied, fresh, replied, settled, text};
+use fh_model::{Act, Bytes32, Cmd, Commit, Found, Mode, Node, Piece};
 use std::test::*;
 
 /// An upload by its path, the rev that it replaces, and how many bytes it has. Those of one length have one content.
@@ -12,8 +13,7 @@ enum Sketch {
     StrictUpdate(&'static str, u64, u32),
 }
 
-/// Uploads one after another, and their replies: the rev and the id with the shown names and the size, or the session
-/// that has the data with the tags of the refusal.
+/// Uploads one after another, and their replies.
 const UPLOADS: [(Sketch, &str); 15] = [
     (Sketch::Add("/a.txt", 5), "1.1/a.txt 5"),
     (Sketch::Add("/A.TXT", 5), "1.1/a.txt 5"),
@@ -44,10 +44,6 @@ fn parts_of(sketch: Sketch) -> (&'static str, Mode, bool, u32) {
         Sketch::Update(path, rev, len) => (path, Mode::Update(rev), false, len),
         Sketch::StrictUpdate(path, rev, len) => (path, Mode::Update(rev), true, len),
     }
-}
-
-fn text(rt: HostRuntime, text: &str) -> Result<Text, Fail> {
-    Ok(Text::new(String::from_str(rt.alloc(), text)?))
 }
 
 /// The piece of so many bytes. All have one digest, as their lengths tell them apart.
@@ -84,53 +80,54 @@ fn upload(rt: HostRuntime, user: u64, sketch: Sketch, drafted: u32) -> Result<Cm
     })
 }
 
-fn put_shown(line: &mut String, names: &[Name]) -> Result<(), Fail> {
-    for name in names {
-        line.push_str("/")?;
-        line.push_str(name.shown.as_str())?;
-    }
-    Ok(())
+/// The image after an upload, and what it was told.
+fn told(
+    rt: HostRuntime,
+    image: &Image,
+    sketch: Sketch,
+    drafted: u32,
+) -> Result<(Image, String), Fail> {
+    let (next, reply) = applied(image, &upload(rt, 1, sketch, drafted)?)?;
+    Ok((next, replied(rt, &reply)?))
 }
 
-fn put_tags(line: &mut String, tags: &[Text]) -> Result<(), Fail> {
-    for tag in tags {
-        line.push_str(tag.as_str())?;
-        line.push_str(".")?;
+/// The image after an upload. It fails where another reply is wanted.
+fn judged(
+    rt: HostRuntime,
+    image: &Image,
+    sketch: Sketch,
+    want: &'static str,
+) -> Result<Image, Fail> {
+    let (next, told) = told(rt, image, sketch, 0)?;
+    if told.as_str() != want {
+        return Err(want.into());
     }
-    Ok(())
-}
-
-fn replied(rt: HostRuntime, reply: &Reply) -> Result<String, Fail> {
-    match reply {
-        Reply::Entry(Entry::File { names, meta }) => {
-            let mut line = format!(in rt.alloc(); "{}.{}", meta.rev, meta.id)?;
-            put_shown(&mut line, names.as_slice())?;
-            write!(line, " {}", meta.size)?;
-            Ok(line)
-        }
-        Reply::Entry(Entry::Folder { .. }) => Ok(String::from_str(rt.alloc(), "folder")?),
-        Reply::Refused(refusal) => {
-            let mut line = String::new(rt.alloc());
-            if let Some(session) = refusal.session {
-                write!(line, "us{session} ")?;
-            }
-            put_tags(&mut line, refusal.tags.as_slice())?;
-            Ok(line)
-        }
-    }
+    Ok(next)
 }
 
 /// The image after the uploads. It fails with the first reply that is another.
 fn uploaded(rt: HostRuntime) -> Result<Image, Fail> {
-    let mut image = Image::empty(rt.alloc())?;
+    let mut image = fresh(rt)?;
     for (sketch, want) in &UPLOADS {
-        let (next, reply) = image.apply(&upload(rt, 1, *sketch, 0)?)?;
-        if replied(rt, &reply)?.as_str() != *want {
-            return Err((*want).into());
-        }
-        image = next;
+        image = judged(rt, &image, *sketch, *want)?;
     }
     Ok(image)
+}
+
+/// Revs, and the size of the version that has each.
+const SIZES: [(u64, Option<u64>); 5] = [
+    (1, Some(5)),
+    (2, Some(6)),
+    (5, Some(1)),
+    (6, None),
+    (0, None),
+];
+
+fn size_of(image: &Image, rev: u64) -> Option<u64> {
+    match image.meta(rev) {
+        Some(meta) => Some(meta.size),
+        None => None,
+    }
 }
 
 fn is_version(there: &Found, rev: u64, size: u64) -> bool {
@@ -141,36 +138,32 @@ fn is_version(there: &Found, rev: u64, size: u64) -> bool {
     }
 }
 
+/// Whether a path leads to the version with this rev and this size.
+fn leads_to(rt: HostRuntime, image: &Image, path: &str, rev: u64, size: u64) -> Result<bool, Fail> {
+    let there = image.resolve(1, &text(rt, path)?)?;
+    Ok(is_version(&there, rev, size))
+}
+
 #[test]
 fn uploads_are_judged_and_each_version_is_kept(rt: HostRuntime) -> Result<(), Fail> {
     let image = uploaded(rt)?;
     assert!(rt; image.kept() == 15);
-    for (rev, size) in [
-        (1, Some(5)),
-        (2, Some(6)),
-        (5, Some(1)),
-        (6, None),
-        (0, None),
-    ] {
-        let found = match image.meta(rev) {
-            Some(meta) => Some(meta.size),
-            None => None,
-        };
-        assert!(rt; found == size, "rev {rev}");
+    for (rev, size) in &SIZES {
+        assert!(rt; size_of(&image, *rev) == *size, "rev {rev}");
     }
-    let first = image.resolve(1, &text(rt, "rev:0000000000000001")?)?;
-    assert!(rt; is_version(&first, 1, 5));
-    let now = image.resolve(1, &text(rt, "/a.txt")?)?;
-    assert!(rt; is_version(&now, 3, 7));
+    let first = leads_to(rt, &image, "rev:0000000000000001", 1, 5)?;
+    let now = leads_to(rt, &image, "/a.txt", 3, 7)?;
+    assert!(rt; first && now);
     Ok(())
 }
 
 #[test]
 fn data_that_is_no_file_changes_nothing(rt: HostRuntime) -> Result<(), Fail> {
-    let image = Image::empty(rt.alloc())?;
-    let (next, reply) = image.apply(&upload(rt, 1, Sketch::Add("/a", 1), 1)?)?;
-    assert!(rt; replied(rt, &reply)?.as_str() == "draft_gap." && next.kept() == 0);
-    let reply = image.settle(&upload(rt, 2, Sketch::Add("/a", 0), 0)?)?;
-    assert!(rt; replied(rt, &reply)?.as_str() == "user.not_found.");
+    let image = fresh(rt)?;
+    let (next, gap) = told(rt, &image, Sketch::Add("/a", 1), 1)?;
+    assert!(rt; gap.as_str() == "draft_gap." && next.kept() == 0);
+    let reply = settled(&image, &upload(rt, 2, Sketch::Add("/a", 0), 0)?)?;
+    let unknown = replied(rt, &reply)?;
+    assert!(rt; unknown.as_str() == "user.not_found.");
     Ok(())
 }

@@ -1,5 +1,5 @@
 //! Answers a request that was read whole.
-ghost use Rattle.std.specs.Prelude.{◌≡◌, ◌≤◌, [], length, List, ℕ, None, true, IfOk, IfSome, OnErr, IsErrOf, option_map};
+ghost use Rattle.std.specs.Prelude.{◌≡◌, ◌≤◌, ◌+◌, [], length, List, ℕ, None, true, IfOk, IfSome, OnErr, IsErrOf, option_map};
 ghost use Rattle.fh_world.specs.Causes.{Rose};
 ghost use Rattle.fh_model.specs.declared.limits.TheConstants.{BLOCK_BYTES};
 ghost use Rattle.api_types.specs.Routes.{has_content};
@@ -143,6 +143,7 @@ fn enter<P: Port>(
     ensures number { P.number port.new ≡ P.number port.old }
     ensures later { P.faults port.old ≤ P.faults port.new }
     ensures told { ¬ IsErrOf result CommitFault.Disk → P.faults port.new ≡ P.faults port.old }
+    ensures once { P.faults port.new ≤ P.faults port.old + 1 }
     ensures went { P.went port.old port.new }
 {
     // No text of a body is as long as 2^32 bytes, which the limits of bodies see to.
@@ -178,6 +179,7 @@ fn carry_out<P: Port>(
     ensures number { P.number port.new ≡ P.number port.old }
     ensures later { P.faults port.old ≤ P.faults port.new }
     ensures told { ¬ IsErrOf result CommitFault.Disk → P.faults port.new ≡ P.faults port.old }
+    ensures once { P.faults port.new ≤ P.faults port.old + 1 }
     ensures went { P.went port.old port.new }
 {
     let (route, user) = caller;
@@ -229,6 +231,7 @@ pub(crate) fn respond<P: Port>(
     ensures number { P.number port.new ≡ P.number port.old }
     ensures later { P.faults port.old ≤ P.faults port.new }
     ensures told { ¬ IsErrOf result CommitFault.Disk → P.faults port.new ≡ P.faults port.old }
+    ensures once { P.faults port.new ≤ P.faults port.old + 1 }
     ensures went { P.went port.old port.new }
 {
     let caller = match call {

@@ -62,6 +62,7 @@ pub(crate) fn read_body<S: Source>(
     ensures later { S.faults source.old ≤ S.faults source.new }
     ensures fault { result.0 ≡ BodyEnd.ReadFault → Rose (S.faults source.old) (S.faults source.new) }
     ensures told { result.0 ≢ BodyEnd.ReadFault → S.faults source.new ≡ S.faults source.old }
+    ensures once { S.faults source.new ≤ S.faults source.old + 1 }
 {
     let mut body = if keeps { Body::Whole } else { Body::Gone };
     'portions: for _ in 0..u64::MAX {

@@ -1,5 +1,5 @@
 //! Reads the next request of a connection, and decides on the way who calls which route.
-ghost use Rattle.std.specs.Prelude.{◌≡◌, ◌≢◌, ◌≤◌, length, true, IsTrue, IfOk, OnOk, OnErr, IfErr, IfSome, option_map, vec_capacity};
+ghost use Rattle.std.specs.Prelude.{◌≡◌, ◌≢◌, ◌≤◌, ◌+◌, length, true, IsTrue, IfOk, OnOk, OnErr, IfErr, IfSome, option_map, vec_capacity};
 ghost use Rattle.fh_model.specs.declared.limits.TheConstants.{BLOCK_BYTES};
 ghost use Rattle.fh_world.specs.Bytes.{Holds};
 ghost use Rattle.http_in.specs.Parts.{limit_of};
@@ -52,6 +52,7 @@ pub(crate) fn write<K: Sink>(sink: &mut K, text: &[u8]) -> Result<(), ConnEnd>
     ensures place { K.place sink.new ≡ K.place sink.old }
     ensures later { K.faults sink.old ≤ K.faults sink.new }
     ensures told { ChangesOnlyAt result ConnEnd.WriteFault (K.faults sink.old) (K.faults sink.new) }
+    ensures once { K.faults sink.new ≤ K.faults sink.old + 1 }
 {
     match sink.write(text) {
         Ok(()) => Ok(()),
@@ -68,6 +69,7 @@ fn greet<K: Sink>(sink: &mut K, waiting: bool) -> Result<(), ConnEnd>
     ensures place { K.place sink.new ≡ K.place sink.old }
     ensures later { K.faults sink.old ≤ K.faults sink.new }
     ensures told { ChangesOnlyAt result ConnEnd.WriteFault (K.faults sink.old) (K.faults sink.new) }
+    ensures once { K.faults sink.new ≤ K.faults sink.old + 1 }
 {
     if waiting {
         return write(sink, interim());
@@ -81,6 +83,7 @@ fn refuse<K: Sink>(sink: &mut K, reply: Result<Vec<u8>, NoMemory>) -> ConnEnd
     ensures place { K.place sink.new ≡ K.place sink.old }
     ensures later { K.faults sink.old ≤ K.faults sink.new }
     ensures told { result ≢ ConnEnd.WriteFault → K.faults sink.new ≡ K.faults sink.old }
+    ensures once { K.faults sink.new ≤ K.faults sink.old + 1 }
 {
     let written = match &reply {
         Ok(text) => write(sink, text),
@@ -141,6 +144,8 @@ fn read_head<P: Port, S: Source, K: Sink, C: Clock>(
     ensures read_told { ChangesOnlyAt result ConnEnd.ReadFault (S.faults (source_of conn.old)) (S.faults (source_of conn.new)) }
     ensures write_told { ChangesOnlyAt result ConnEnd.WriteFault (K.faults (sink_of conn.old)) (K.faults (sink_of conn.new)) }
     ensures disk_told { P.faults port.new ≡ P.faults port.old }
+    ensures read_once { S.faults (source_of conn.new) ≤ S.faults (source_of conn.old) + 1 }
+    ensures write_once { K.faults (sink_of conn.new) ≤ K.faults (sink_of conn.old) + 1 }
 {
     let alloc = conn.alloc;
     let head = match conn.reader.next(&mut conn.source) {
@@ -188,6 +193,8 @@ pub(crate) fn receive<P: Port, S: Source, K: Sink, C: Clock>(
     ensures read_told { ChangesOnlyAt result ConnEnd.ReadFault (S.faults (source_of conn.old)) (S.faults (source_of conn.new)) }
     ensures write_told { ChangesOnlyAt result ConnEnd.WriteFault (K.faults (sink_of conn.old)) (K.faults (sink_of conn.new)) }
     ensures disk_told { P.faults port.new ≡ P.faults port.old }
+    ensures read_once { S.faults (source_of conn.new) ≤ S.faults (source_of conn.old) + 1 }
+    ensures write_once { K.faults (sink_of conn.new) ≤ K.faults (sink_of conn.old) + 1 }
 {
     let alloc = conn.alloc;
     let opened = match read_head(port, conn, clock, admin) {

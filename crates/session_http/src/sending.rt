@@ -1,5 +1,5 @@
 //! Sends the content of a file, one block after another.
-ghost use Rattle.std.specs.Prelude.{◌≡◌, ◌≤◌, ℕ, IsTrue, IfOk, OnOk, IfErr};
+ghost use Rattle.std.specs.Prelude.{◌≡◌, ◌≤◌, ◌+◌, ℕ, IsTrue, IfOk, OnOk, IfErr};
 ghost use Rattle.fh_model.specs.declared.files.FileMeta.{FileMeta};
 ghost use Rattle.fh_model.specs.History.{state_of};
 ghost use Rattle.host_seat.specs.Port.{IsBlock, KeepsPieces, OthersEnter, block_at};
@@ -22,6 +22,7 @@ fn fetch<P: Port>(port: &mut P, rev: u64, block: u32) -> Result<Vec<u8>, ConnEnd
     ensures number { P.number port.new ≡ P.number port.old }
     ensures later { P.faults port.old ≤ P.faults port.new }
     ensures told { ChangesOnlyAt result ConnEnd.DiskFault (P.faults port.old) (P.faults port.new) }
+    ensures once { P.faults port.new ≤ P.faults port.old + 1 }
     ensures went { P.went port.old port.new }
 {
     match port.fetch(rev, block) {
@@ -56,6 +57,8 @@ pub(crate) fn send<P: Port, K: Sink>(
     ensures later { K.faults sink.old ≤ K.faults sink.new }
     ensures disk_told { ChangesOnlyAt result ConnEnd.DiskFault (P.faults port.old) (P.faults port.new) }
     ensures write_told { ChangesOnlyAt result ConnEnd.WriteFault (K.faults sink.old) (K.faults sink.new) }
+    ensures disk_once { P.faults port.new ≤ P.faults port.old + 1 }
+    ensures write_once { K.faults sink.new ≤ K.faults sink.old + 1 }
 {
     match write(sink, head) {
         Ok(()) => {}

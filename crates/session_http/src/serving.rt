@@ -50,6 +50,9 @@ fn serve_one<P: Port, S: Source, K: Sink, C: Clock>(
     ensures read_told { ChangesOnlyAt result ConnEnd.ReadFault (S.faults (source_of conn.old)) (S.faults (source_of conn.new)) }
     ensures write_told { ChangesOnlyAt result ConnEnd.WriteFault (K.faults (sink_of conn.old)) (K.faults (sink_of conn.new)) }
     ensures disk_told { ChangesOnlyAt result ConnEnd.DiskFault (P.faults port.old) (P.faults port.new) }
+    ensures read_once { S.faults (source_of conn.new) ≤ S.faults (source_of conn.old) + 1 }
+    ensures write_once { K.faults (sink_of conn.new) ≤ K.faults (sink_of conn.old) + 1 }
+    ensures disk_once { P.faults port.new ≤ P.faults port.old + 1 }
 {
     let alloc = conn.alloc;
     let heard = match receive(port, conn, clock, admin) {
@@ -115,6 +118,10 @@ pub fn serve_conn<P: Port, S: Source, K: Sink, C: Clock>(
     ensures read_told { result ≢ ConnEnd.ReadFault → S.faults (source_of conn.new) ≡ S.faults (source_of conn.old) }
     ensures write_told { result ≢ ConnEnd.WriteFault → K.faults (sink_of conn.new) ≡ K.faults (sink_of conn.old) }
     ensures disk_told { result ≢ ConnEnd.DiskFault → P.faults port.new ≡ P.faults port.old }
+    // Nothing is tried again behind a fault.
+    ensures read_once { S.faults (source_of conn.new) ≤ S.faults (source_of conn.old) + 1 }
+    ensures write_once { K.faults (sink_of conn.new) ≤ K.faults (sink_of conn.old) + 1 }
+    ensures disk_once { P.faults port.new ≤ P.faults port.old + 1 }
 {
     'requests: while conn.answered < REQUESTS_MAX {
         match serve_one(port, conn, clock, admin) {
