@@ -16,7 +16,8 @@ Uploads a second: new files of 5 and of 4,096 bytes, on one connection, in turns
 is written once its upload is durable, before the next request is looked at, so the syncs are done one after another as if the
 client waited for each reply. A turn ends as its last reply is in the pipe; one upload before all turns starts the program,
 and doesn't count. Beside it is a plain loop of the same writes of the same sizes: the data behind the end of one file,
-fdatasync; the record behind the gate in a second file, fdatasync; the gate, fdatasync. As a commit copies a pointer for each
+fdatasync; the record behind the gate in a second file, fdatasync; the gate, fdatasync. The store extends its files ahead by
+zeros, which the loop doesn't, so that most of its syncs have no new length to write. As a commit copies a pointer for each
 item of the tree, the rate may fall as the store grows; so there is a row for stores that grow from none to 100 files, and one
 to 1,000.
 

@@ -6,8 +6,8 @@ usage: bench/journal.py [FOLDER]
 Run it once `rt ci` has built crates/journal_bench/out/journal_bench, the proved program. FOLDER, by default the
 current one, should lie on the disk in question. For records of 64 and of 4,096 bytes the program and a plain loop
 (write behind the gate, fdatasync, write the gate, fdatasync) take turns, and the medians of both are printed with
-their ratio. What the program takes for no record, its start and the making of the files, is taken off. At least 0.9
-is wanted; the status is 1 below that.
+their ratio. The journal extends its slot ahead by zeros, which the loop doesn't. What the program takes for no record,
+its start and the making of the files, is taken off. At least 0.9 is wanted; the status is 1 below that.
 """
 
 import os

@@ -1,4 +1,4 @@
-ghost use Rattle.std.specs.Prelude.{◌≡◌, ◌+◌, ◌<◌, ◌^◌, ◌≤◌, ℕ, List, length, IsTrue, IfOk, OnOk};
+ghost use Rattle.std.specs.Prelude.{◌≡◌, ◌+◌, ◌<◌, ◌^◌, ◌≤◌, ℕ, List, length, max, IsTrue, IfOk, OnOk};
 ghost use Rattle.sha2.specs.Sha256.{sha256};
 ghost use Rattle.fh_world.specs.Causes.{HasCause, CountsOnce};
 ghost use Rattle.fh_world.specs.Disk.{Only, Rests, Writes, LeavesOnly, LeavesTorn};
@@ -11,6 +11,18 @@ ghost use Rattle.block_file.specs.Stored.{IsPieceOf, Stored};
 use fh_model::{BLOCK_BYTES, Bytes32, Piece};
 use fh_world::{Disk, Failed, FileNo, write_through};
 use sha2::{Digest, Sha256};
+
+/// How far behind a piece's place its `put` may write, in bytes, where the piece isn't longer.
+pub const ROOM_BYTES: usize = 65_536;
+
+/// What the file is extended by at once.
+const ROOM: [u8; ROOM_BYTES] = [0; ROOM_BYTES];
+
+/// Where the file is extended for the first time, in bytes. Before it, as in a new store, a file is as long as its pieces.
+const FIRST_ROOM_AT: u64 = 512;
+
+/// A longer piece is put without room, which would be written twice for the sake of a few pieces.
+const SMALL_PIECE_BYTES: usize = 8_192;
 
 /// Why a piece wasn't put.
 #[derive(Clone, Copy, Debug, PartialEq, Eq)]
@@ -27,7 +39,7 @@ impl From<Failed> for PutFault {
 
 /// Puts 1 to `BLOCK_BYTES` bytes at `end`, which is at most the file's length in bytes, and syncs them. After `Ok`
 /// the piece's bytes are read back, also after a crash. A crash at any moment of the call, and a fault, leave the file
-/// from before but for what stands in the bytes' range.
+/// from before but for what stands in the bytes' range, or in the first `ROOM_BYTES` from `end` on.
 pub fn put<D: Disk>(disk: &mut D, end: u64, bytes: &[u8]) -> Result<Piece, PutFault>
     requires some { 0 < length bytes.now }
     requires few { length bytes.now ≤ BLOCK_BYTES }
@@ -39,8 +51,8 @@ pub fn put<D: Disk>(disk: &mut D, end: u64, bytes: &[u8]) -> Result<Piece, PutFa
     // A fault changes no piece below `end` either.
     ensures below { IsTrue D.tells → (piece : Piece) (bytes : List ℕ) → piece.place + piece.len ≤ end
         → Stored D.Disk disk.old piece bytes → Stored D.Disk disk.new piece bytes }
-    ensures writes { IsTrue D.tells → Writes Blocks end (length bytes.now) (D.seen disk.old) (D.seen disk.new) (D.may_leave disk.old) (D.may_leave disk.new) }
-    ensures any_moment { IsTrue D.tells → LeavesOnly D.moment D.left_since disk.old disk.new (LeavesTorn Blocks end (length bytes.now) (D.may_leave disk.old)) }
+    ensures writes { IsTrue D.tells → Writes Blocks end (max (length bytes.now) ROOM_BYTES) (D.seen disk.old) (D.seen disk.new) (D.may_leave disk.old) (D.may_leave disk.new) }
+    ensures any_moment { IsTrue D.tells → LeavesOnly D.moment D.left_since disk.old disk.new (LeavesTorn Blocks end (max (length bytes.now) ROOM_BYTES) (D.may_leave disk.old)) }
     ensures place { D.place disk.new ≡ D.place disk.old }
     ensures cause { HasCause (D.faults disk.old) (D.faults disk.new) result }
     ensures once { CountsOnce (D.faults disk.old) (D.faults disk.new) result }
@@ -69,18 +81,44 @@ pub fn put_hashed<D: Disk>(
     // A fault changes no piece below `end` either.
     ensures below { IsTrue D.tells → (piece : Piece) (bytes : List ℕ) → piece.place + piece.len ≤ end
         → Stored D.Disk disk.old piece bytes → Stored D.Disk disk.new piece bytes }
-    ensures writes { IsTrue D.tells → Writes Blocks end (length bytes.now) (D.seen disk.old) (D.seen disk.new) (D.may_leave disk.old) (D.may_leave disk.new) }
-    ensures any_moment { IsTrue D.tells → LeavesOnly D.moment D.left_since disk.old disk.new (LeavesTorn Blocks end (length bytes.now) (D.may_leave disk.old)) }
+    ensures writes { IsTrue D.tells → Writes Blocks end (max (length bytes.now) ROOM_BYTES) (D.seen disk.old) (D.seen disk.new) (D.may_leave disk.old) (D.may_leave disk.new) }
+    ensures any_moment { IsTrue D.tells → LeavesOnly D.moment D.left_since disk.old disk.new (LeavesTorn Blocks end (max (length bytes.now) ROOM_BYTES) (D.may_leave disk.old)) }
     ensures place { D.place disk.new ≡ D.place disk.old }
     ensures cause { HasCause (D.faults disk.old) (D.faults disk.new) result }
     ensures once { CountsOnce (D.faults disk.old) (D.faults disk.new) result }
 {
+    make_room(disk, end, bytes.len())?;
     write_through(disk, FileNo::Blocks, end, bytes)?;
     Ok(Piece {
         place: end,
         len: bytes.len() as u32,
         digest,
     })
+}
+
+/// Extends the file by zeros where a small piece of so many bytes at `end` reaches the next place at which this is done,
+/// so that the pieces that come into them change no length of the file, which their syncs would have to write too. The
+/// length isn't asked for: that alone makes the next sync write more.
+fn make_room<D: Disk>(disk: &mut D, end: u64, count: usize) -> Result<(), Failed>
+    requires within { IsTrue D.tells → end ≤ length (D.seen disk.old Blocks) }
+    ensures writes { IsTrue D.tells → Writes Blocks end ROOM_BYTES (D.seen disk.old) (D.seen disk.new) (D.may_leave disk.old) (D.may_leave disk.new) }
+    ensures any_moment { IsTrue D.tells → LeavesOnly D.moment D.left_since disk.old disk.new (LeavesTorn Blocks end ROOM_BYTES (D.may_leave disk.old)) }
+    ensures place { D.place disk.new ≡ D.place disk.old }
+    ensures cause { HasCause (D.faults disk.old) (D.faults disk.new) result }
+    ensures once { CountsOnce (D.faults disk.old) (D.faults disk.new) result }
+{
+    if SMALL_PIECE_BYTES < count || !reaches_room(end, count as u64) {
+        return Ok(());
+    }
+    disk.write_at(FileNo::Blocks, end, &ROOM)
+}
+
+/// Whether so many bytes from a place on reach one at which the file is extended: the first such place, or a multiple of
+/// the room.
+fn reaches_room(from: u64, count: u64) -> bool {
+    let next = from.saturating_add(count);
+    let step = ROOM_BYTES as u64;
+    (from < FIRST_ROOM_AT && FIRST_ROOM_AT <= next) || from / step < next / step
 }
 
 /// Fills the buffer, which has the piece's length, with the bytes of a piece that lies in the file. Nothing is changed.

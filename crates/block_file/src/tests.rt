@@ -45,12 +45,12 @@ fn pieces_stand_one_behind_another(rt: HostRuntime) -> Result<(), Fail> {
             "2cf24dba5fb0a30e26e83b2ac5b9e29e1b161e5c1fa7425e73043362938b9824",
         ),
         (
-            zeros.as_slice(),
-            "bb9f8df61474d25e71fa00722318cd387396ca1736605e1248821cc0de3d3af8",
-        ),
-        (
             b"a longer piece",
             "2ae797d582676cd11e76b1c6d64c1033c473aae391ef52ba125da5ef9d16bfd7",
+        ),
+        (
+            zeros.as_slice(),
+            "bb9f8df61474d25e71fa00722318cd387396ca1736605e1248821cc0de3d3af8",
         ),
     ] {
         if bytes.is_empty() || bytes.len() > BLOCK_BYTES {
@@ -62,8 +62,11 @@ fn pieces_stand_one_behind_another(rt: HostRuntime) -> Result<(), Fail> {
         assert_eq!(rt; spelled(alloc, &piece.digest)?.as_str(), want);
         assert!(rt; has(alloc, &mut disk, &piece, bytes)?);
     }
-    assert!(rt; disk.bytes(FileNo::Blocks).starts_with(b"hello\0\0"));
-    assert!(rt; disk.bytes(FileNo::Blocks).ends_with(b"\0a longer piece"));
+    assert!(rt;
+        disk.bytes(FileNo::Blocks)
+            .starts_with(b"helloa longer piece\0")
+    );
+    assert!(rt; disk.bytes(FileNo::Blocks).ends_with(b"\0\0"));
     assert!(rt; disk.bytes(FileNo::Head).is_empty() && disk.bytes(FileNo::SlotA).is_empty());
     Ok(())
 }
@@ -87,6 +90,31 @@ fn a_stop_at_any_call_keeps_the_pieces_below(rt: HostRuntime) -> Result<(), Fail
                 assert!(rt; has(alloc, &mut image, piece, b"the second piece")?);
             }
         }
+    }
+    Ok(())
+}
+
+#[test]
+fn pieces_of_a_file_that_is_extended_are_kept(rt: HostRuntime) -> Result<(), Fail> {
+    let alloc = rt.alloc();
+    let long = vec![in alloc; 7u8; 600]?;
+    for calls in 3..6 {
+        let mut fuse = FuseDisk::new(MemDisk::new(alloc)?, calls);
+        let first = put(&mut fuse, 0, &long)?;
+        let second = put(&mut fuse, 600, b"second");
+        assert_eq!(rt; second.is_ok(), calls >= 5);
+        let disk = fuse.into_inner();
+        for choice in 0..64 {
+            let mut image = disk.crashed(choice)?;
+            assert!(rt;
+                has(alloc, &mut image, &first, &long)?,
+                "{calls} calls, choice {choice}"
+            );
+            if let Ok(piece) = &second {
+                assert!(rt; has(alloc, &mut image, piece, b"second")?);
+            }
+        }
+        assert!(rt; disk.bytes(FileNo::Blocks).len() == 65_536);
     }
     Ok(())
 }

@@ -1,4 +1,4 @@
-ghost use Rattle.std.specs.Prelude.{◌≡◌, ◌⊎◌, ℕ, true, IfOk, Ok, Err};
+ghost use Rattle.std.specs.Prelude.{◌≡◌, ◌⊎◌, ℕ, true, IfOk, IsErrOf, Ok, Err};
 ghost use Rattle.byte_formats.specs.Spelling.{Spells, IsFirstBad, whole_at};
 ghost use Rattle.byte_formats.specs.Given.{Gives};
 ghost use Rattle.byte_formats.specs.declared.fault.CodecFault.TheVariants.{Bad, NoMemory};
@@ -22,7 +22,8 @@ fn make_folder_at(alloc: Global, bytes: &[u8]) -> Result<(Act, &[u8]), Stop>
 
 #[tactic(auto, unfolding(crate::specs::Commands::mode_at))]
 fn mode_at(alloc: Global, bytes: &[u8]) -> Result<(Mode, &[u8]), Stop>
-    ensures { Gives (λ x. (x.0, x.1.now)) result (mode_format.read bytes.now) }
+    ensures given { Gives (λ x. (x.0, x.1.now)) result (mode_format.read bytes.now) }
+    ensures memory { IsErrOf result Stop.NoMemory → ⊥ }
 {
     match bytes {
         [] => Err(Stop::Bad(0)),

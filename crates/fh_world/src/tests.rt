@@ -92,6 +92,23 @@ fn a_fuse_passes_its_calls_and_then_fails(rt: HostRuntime) -> Result<(), Fail> {
 }
 
 #[test]
+fn a_blown_fuse_passes_no_call_on(rt: HostRuntime) -> Result<(), Fail> {
+    let mut fuse = FuseDisk::new(MemDisk::new(rt.alloc())?, 4);
+    put(&mut fuse, FileNo::Head, b"a")?;
+    let same = reads(&mut fuse, FileNo::Head, b"a")?;
+    assert!(rt; same);
+    assert!(rt; fuse.read_at(FileNo::Head, 0, &mut []).is_err());
+    assert!(rt; fuse.write_at(FileNo::Head, 0, b"b").is_err());
+    assert!(rt; fuse.len(FileNo::Head).is_err());
+    assert!(rt; fuse.sync(FileNo::Head).is_err());
+    let disk = fuse.into_inner();
+    assert!(rt; disk.bytes(FileNo::Head) == b"a".as_slice());
+    let left = disk.crashed(0)?;
+    assert!(rt; left.bytes(FileNo::Head).is_empty());
+    Ok(())
+}
+
+#[test]
 fn a_folder_keeps_what_was_written(rt: HostRuntime) -> Result<(), Fail> {
     let mut disk = FileDisk::open(&rt, ".");
     put(&mut disk, FileNo::SlotA, b"slot a")?;

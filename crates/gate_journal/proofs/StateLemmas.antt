@@ -1,5 +1,5 @@
 -- What the writes of a journal, and crashes among them, make of its slot.
-use Rattle.std.proofs.Common.{◌≡◌, ◌≢◌, inl, ℕ, ◌+◌, ◌-◌, ◌<◌, ◌≤◌, ◌^◌, List, [], ◌∷◌, ◌++◌, length, take, drop, Option, Some, None, MatchBool, is_some, sym, ◌∙◌, ap, subst, arith, append_assoc, length-append}
+use Rattle.std.proofs.Common.{◌≡◌, ◌≢◌, inl, ℕ, ◌+◌, ◌-◌, ◌<◌, ◌≤◌, ◌^◌, List, [], ◌∷◌, ◌++◌, length, take, drop, Option, Some, None, MatchBool, is_some, Result, Ok, Err, OnErr, sym, ◌∙◌, ap, subst, arith, append_assoc, length-append}
 use Rattle.std.proofs.lemmas.List.{take_all, take_at}
 use Rattle.fh_world.specs.declared.FileNo.{FileNo}
 use Rattle.fh_world.specs.Disk.{Files, Overwritten, Torn, Only, Rests, Writes, LeavesOnly, LeavesTorn}
@@ -118,6 +118,11 @@ kept_written file at n seen_old seen_new may_old may_new writes = record { seen 
 
 pub kept_rests : (slot : FileNo) (seen_old seen_new : Files) (may_old may_new : FileNo → List ℕ → Type 0) → Rests seen_old seen_new may_old may_new → KeepsOthers slot seen_old seen_new may_old may_new
 kept_rests slot seen_old seen_new may_old may_new rests = record { seen = λ g other. rests.seen g; crash = λ g other. rests.crash g }
+
+-- what an error has
+pub on_err : {T E : Type 0} (r : Result T E) (A B : Type 0) → (A → B) → OnErr r A → OnErr r B
+on_err (Ok value) A B then is = is
+on_err (Err fault) A B then is = then is
 
 -- one call after another
 pub kept_joined : (slot : FileNo) (seen_old seen_mid seen_new : Files) (may_old may_mid may_new : FileNo → List ℕ → Type 0) → KeepsOthers slot seen_old seen_mid may_old may_mid → KeepsOthers slot seen_mid seen_new may_mid may_new → KeepsOthers slot seen_old seen_new may_old may_new

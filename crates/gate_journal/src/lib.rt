@@ -13,6 +13,9 @@
 //!    at its place, so also one that passes the file's end.
 //! 3. To append, the length, the body and one zero byte, which closes the gate behind, are written behind the closed
 //!    gate, and the file is synced; then the gate is opened and the file synced again.
+//! 4. What lies behind the first gate that isn't open counts for nothing. Whenever a record reaches byte 512 of the slot, or
+//!    a multiple of 65,536, 65,536 zeros are written behind the gate first, since a sync is quicker where it changes no
+//!    length.
 //!
 //! So after a crash at any moment of `append` the slot stands for the records before, or for these and the new one;
 //! after `Ok` it stands for the latter. A fault before the gate is written leaves what the slot stands for. A fault

@@ -59,6 +59,20 @@ fn same(left: &[Record], right: &[Record]) -> bool {
     left.len() == right.len() && left.iter().zip(right).all(|(a, b)| a.body() == b.body())
 }
 
+/// Whether what a crash leaves by this choice are the records that were acknowledged, so many from the first on, or one more.
+fn leaves(
+    alloc: Global,
+    disk: &MemDisk,
+    choice: u64,
+    records: &[Record],
+    done: usize,
+) -> Result<bool, Fail> {
+    let mut image = disk.crashed(choice)?;
+    let (_, left) = open(alloc, &mut image, FileNo::SlotA)?;
+    let before = same(&left, front(records, done));
+    Ok(before || same(&left, front(records, done.saturating_add(1))))
+}
+
 #[test]
 fn a_stop_at_any_call_leaves_the_records_before_or_with_the_next(
     rt: HostRuntime,
@@ -72,12 +86,31 @@ fn a_stop_at_any_call_leaves_the_records_before_or_with_the_next(
         };
         let disk = fuse.into_inner();
         for choice in 0..64 {
-            let mut image = disk.crashed(choice)?;
-            let (_, left) = open(alloc, &mut image, FileNo::SlotA)?;
-            let before = same(&left, front(&records, done));
-            let with = same(&left, front(&records, done.saturating_add(1)));
-            assert!(rt; before || with, "after {calls} calls, choice {choice}");
+            let is_left = leaves(alloc, &disk, choice, &records, done)?;
+            assert!(rt; is_left, "after {calls} calls, choice {choice}");
         }
+    }
+    Ok(())
+}
+
+#[test]
+fn a_stop_of_a_slot_that_is_extended_leaves_no_less(rt: HostRuntime) -> Result<(), Fail> {
+    let alloc = rt.alloc();
+    let mut records = Vec::new(alloc);
+    for len in [600, 1, 65_600] {
+        records.push(frame(alloc, &vec![in alloc; 0xa5u8; len]?)?)?;
+    }
+    for calls in 0..20 {
+        let mut fuse = FuseDisk::new(MemDisk::new(alloc)?, calls);
+        let Some(done) = append_all(alloc, &mut fuse, &records) else {
+            continue;
+        };
+        let disk = fuse.into_inner();
+        for choice in 0..16 {
+            let is_left = leaves(alloc, &disk, choice, &records, done)?;
+            assert!(rt; is_left, "after {calls} calls, choice {choice}");
+        }
+        assert!(rt; done < 2 || 65_000 < disk.bytes(FileNo::SlotA).len());
     }
     Ok(())
 }

@@ -475,7 +475,7 @@ nothing_served of_disk of_source of_sink second admin store s k ran =
       end = end.NoMemory;
       is = refl;
       served = serve_none end.NoMemory (terms true second admin) here here [] [] [] (known_none here.given) (known_nothing here.left) (known_none here.held)
-          (with_nothing store.image) refl (λ _. inl refl) (λ _. refl) (λ _. keeps_same (first here) here.blocks here.blocks refl) none_yet (inl (refl, inl (inl refl, refl)));
+          (with_nothing store.image) refl (λ _. inl refl) (λ _. refl) (λ _. keeps_same (first here) here.blocks here.blocks refl) none_yet (inl (refl, inr (refl, refl, refl)));
       ran = ran;
     }
 

@@ -4,8 +4,6 @@
 
 mod pipe;
 mod status;
-#[cfg(test)]
-mod tests;
 mod words;
 
 pub use pipe::run_pipe;

@@ -28,12 +28,3 @@ mod writing;
 
 pub use faults::{LookFault, RowsFault};
 pub use image::Image;
-
-#[cfg(test)]
-mod chunk_tests;
-#[cfg(test)]
-mod path_tests;
-#[cfg(test)]
-mod tests;
-#[cfg(test)]
-mod upload_tests;

@@ -1,5 +1,5 @@
 -- A head and its body, as calls of the reader gave them, are one request.
-use Rattle.std.proofs.Common.{◌≡◌, ℕ, ◌≤◌, Bool, List, [], ◌++◌, Option, refl, sym, ◌∙◌, ap, subst, append_assoc, inl, inr, option_map}
+use Rattle.std.proofs.Common.{◌≡◌, ℕ, ◌-◌, ◌^◌, ◌≤◌, Bool, List, [], ◌++◌, length, Option, refl, sym, ◌∙◌, ap, subst, append_assoc, inl, inr, option_map}
 use Rattle.httparse.specs.Grammar.{RequestHead}
 use Rattle.std.specs.Io.KnownBytes.{IsAtEnd, append_known, prepend_known}
 use Rattle.fh_world.specs.Causes.{Rose}
@@ -8,9 +8,10 @@ use Rattle.http_in.specs.declared.head.Head.{Head}
 use Rattle.http_in.specs.declared.place.Place.{Place}
 use Rattle.http_in.specs.declared.place.State.{State}
 use Rattle.http_in.specs.declared.place.State.TheVariants.{Inside}
-use Rattle.http_in.specs.Bodies.{Ending, BodyFrom, done, cut, bad, too_large}
+use Rattle.http_in.specs.Bodies.{Ending, BodyFrom, Runs, done, cut, bad, too_large}
 use Rattle.http_in.specs.Heads.{BeginsWithHead}
 use Rattle.http_in.specs.Parts.{IsHeadOf, limit_of}
+use Rattle.http_in.specs.Readings.{StopsInside}
 use Rattle.http_in.specs.Requests.{Request, BeginsWithBody}
 use Rattle.http_in.specs.Stands.{place_of}
 use Rattle.http_in.proofs.MoreBytes.{head_more}
@@ -24,7 +25,8 @@ use Rattle.session_http.specs.declared.bodies.Body.{Body}
 use Rattle.session_http.specs.Points.{is_called}
 use Rattle.session_http.specs.Steps.{Hears, HearsAll, IsKnown, Opens, Passes, Stops}
 use Rattle.session_http.specs.Talk.{Terms, Moment}
-use Rattle.session_http.specs.declared.conn.ConnEnd.TheVariants.{Cut, ReadFault, NoMemory}
+use Rattle.session_http.specs.declared.conn.ConnEnd.TheVariants.{Cut, ReadFault}
+use Rattle.session_http.proofs.Limits.{never_unread}
 use Rattle.session_http.proofs.Ones.{at_most_to}
 use Rattle.session_http.proofs.Points.{last_same}
 use Rattle.session_http.proofs.Talks.{at_most, known_more, known_less, rose_since}
@@ -139,13 +141,11 @@ module _ (t : Terms) (old mid new : Moment) (call : Option Called) (head : Head)
     stops = (inr (opens.asked, mid.unread ++ fresh, head_begins, refl), rose_since old.read_faults mid.read_faults new.read_faults opens.passes.read_later rose);
   }
 
-  pub stops_memory : Stops t old new NoMemory
-  stops_memory = record {
-    bytes = bytes;
-    part = interim_of opens.asked;
-    passes = passes_body;
-    stops = inr (opens.asked, mid.unread ++ fresh, head_begins, refl);
-  }
+  pub not_unread : (kept : List ℕ) → StopsInside place (mid.unread ++ fresh) added kept → 2 ^ 64 - 1 ≤ length content → ⊥
+  not_unread kept stops many =
+      let same = same_place place (place_of (limit_of head.target.items) head.length) (sym inside ∙ at) in
+      let P : Place → Type 0 = λ p. Runs p (mid.unread ++ fresh) added stops.0 kept in
+      never_unread head.target.items head.length stops.0 (mid.unread ++ fresh) added kept (subst P same stops.1) (subst (λ (c : List ℕ). 2 ^ 64 - 1 ≤ length c) gained many)
 
   pub refused_bad : BodyFrom place (mid.unread ++ fresh) added bad → IsRefused (old.unread ++ bytes) (interim_of opens.asked) bad_request
   refused_bad body = inr (inr (inl (asked, request_begins bad body, refl, refl)))

@@ -222,7 +222,7 @@ module _ {P S K : Type 0} (p : view.Ghosts P) (s : source.Ghosts S) (k : sink.Gh
     bytes = next.fresh;
     part = [];
     passes = passes_next port a b ends held kept next.fresh next.moves later;
-    stops = inl (inr next.step_is.0, refl);
+    stops = (next.step_is.0, refl);
   }
 
   pub stops_bad : (end : ConnEnd) (port : P) (a b : S) (ends ended : K) (held kept : List ℕ) → HeadCall s.given s.left a b held kept step.Bad → s.faults a ≤ s.faults b

@@ -334,7 +334,7 @@ stop_ends Cut t old new others rest part h = (refl, h.0, h.1)
 stop_ends Bad t old new others rest part h = (refl, h)
 stop_ends ReadFault t old new others rest part h = (refl, h.0, h.1)
 stop_ends WriteFault t old new others rest part h = (h.0, inr (refl, h.1), h.2, h.3)
-stop_ends NoMemory t old new others rest part h = inl (refl, h)
+stop_ends NoMemory t old new others rest part h = inl (refl, inl h)
 stop_ends DiskFault t old new others rest part h = absurd h
 stop_ends Spent t old new others rest part h = absurd h
 

@@ -24,9 +24,9 @@ IsGreeted rest before = (h : RequestHead) × (after : List ℕ) × BeginsWithHea
 abbrev pub IsOpened : List ℕ → List ℕ → Type 0
 IsOpened rest before = (HasNoHead rest × (before ≡ [])) ⊎ IsGreeted rest before
 
--- nothing was read of it, or its head is whole and states a framing, and the interim text may be missing
+-- its head is whole and states a framing, and nothing was written for it
 abbrev pub IsBegun : List ℕ → List ℕ → Type 0
-IsBegun rest before = (((rest ≡ []) ⊎ IsFramed rest) × (before ≡ [])) ⊎ IsGreeted rest before
+IsBegun rest before = IsFramed rest × (before ≡ [])
 
 -- it ends inside a request
 abbrev pub IsCutShort : List ℕ → List ℕ → Type 0

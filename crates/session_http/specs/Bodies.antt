@@ -1,8 +1,9 @@
 -- What reading the body of a request leaves.
-use Rattle.std.specs.Prelude.{◌≡◌, ◌⊎◌, ℕ, ◌<◌, Bool, IsTrue, List, [], ◌++◌, length, Option}
+use Rattle.std.specs.Prelude.{◌≡◌, ◌⊎◌, ℕ, ◌<◌, ◌≤◌, ◌-◌, ◌^◌, Bool, IsTrue, List, [], ◌++◌, length, Option}
 use Rattle.fh_model.specs.declared.limits.TheConstants.{BLOCK_BYTES}
 use Rattle.http_in.specs.Readings.{ContentRead, ContentSoFar}
 use Rattle.http_in.specs.declared.all.BodyEnd.{BodyEnd}
+use Rattle.http_in.specs.declared.all.BodyEnd.TheVariants.{Unread}
 use Rattle.http_in.specs.declared.place.State.{State}
 use Rattle.session_http.specs.declared.bodies.Body.{Body}
 use Rattle.session_http.specs.declared.bodies.Body.TheVariants.{Whole, Large, Gone}
@@ -26,14 +27,17 @@ pub record BodyRead {S : Type 0} (given left : S → Option (List ℕ)) (old new
   pub read : ContentRead given left old new held left_held state [] content end
   pub holds : Holds body kept content
   pub gone : GoneOnlyFor keeps room body content
+  -- there were as many portions as can be counted
+  pub many : end ≡ Unread → 2 ^ 64 - 1 ≤ length content
 
--- and so far
+-- and so far, by so many portions
 pub record BodySoFar {S : Type 0} (given left : S → Option (List ℕ)) (old now : S) (held left_held : List ℕ) (state current : State) (keeps : Bool) (room : ℕ)
-    (body : Body) (kept : List ℕ) : Type 0 where
+    (body : Body) (kept : List ℕ) (portions : ℕ) : Type 0 where
   pub content : List ℕ
   pub so_far : ContentSoFar given left old now held left_held state current [] content
   pub holds : Holds body kept content
   pub gone : GoneOnlyFor keeps room body content
+  pub many : portions ≤ length content
 
 -- a portion stands behind what was kept
 abbrev pub KeepsOn : Body → List ℕ → List ℕ → Body → List ℕ → Type 0

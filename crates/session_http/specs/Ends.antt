@@ -82,6 +82,10 @@ pub record IsBrokenOff (t : Terms) (before : Moment) (answered broken : List Tur
   pub fewer : count < length meta.pieces
   pub some : IsPart (replies_behind t before answered broken) part
 
+-- no request of the connection was answered, none was begun, and nothing was written
+abbrev pub IsUnbegun : Moment → List ℕ → List ℕ → Type 0
+IsUnbegun now rest part = (now.count ≡ 0) × (rest ≡ []) × (part ≡ [])
+
 -- Why a connection may end so. `answered` are the requests whose replies were written, `broken` is the one whose reply
 -- was not written whole, `behind` what others entered since, `rest` what was read behind the requests, and `part` what
 -- was written behind the replies.
@@ -98,7 +102,7 @@ EndsBy DiskFault t before now answered broken behind rest part =
     ⊎ (IsBrokenOff t before answered broken part × Leaves before.waits [] now.waits))
     × Rose before.port_faults now.port_faults
 EndsBy NoMemory t before now answered broken behind rest part =
-    ((broken ≡ []) × IsBegun rest part) ⊎ IsBrokenOff t before answered broken part
+    ((broken ≡ []) × (IsBegun rest part ⊎ IsUnbegun now rest part)) ⊎ IsBrokenOff t before answered broken part
 EndsBy Spent t before now answered broken behind rest part = (broken ≡ []) × (behind ≡ []) × (part ≡ []) × (before.count + length answered ≡ REQUESTS_MAX)
 
 -- all that a connection did

@@ -56,6 +56,7 @@ pub(crate) fn read_body<S: Source>(
     requires empty { buffer.old.items ≡ [] }
     ensures read { BodyRead S.given S.left source.old source.new reader.old.held reader.new.held reader.old.state
         keeps (vec_capacity buffer.old) result.1 buffer.new.items result.0 }
+    ensures memory { result.0 ≡ BodyEnd.NoMemory → ⊥ }
     ensures few { length buffer.new.items ≤ BLOCK_BYTES }
     ensures done { result.0 ≡ BodyEnd.Done → reader.new.state ≡ State.Between }
     ensures place { S.place source.new ≡ S.place source.old }
@@ -73,7 +74,7 @@ pub(crate) fn read_body<S: Source>(
             BodyStep::Bad => return (BodyEnd::Bad, body),
             BodyStep::TooLarge => return (BodyEnd::TooLarge, body),
             BodyStep::ReadFault => return (BodyEnd::ReadFault, body),
-            BodyStep::NoMemory => return (BodyEnd::NoMemory, body),
+            BodyStep::NoMemory => unreachable!(),
         }
     }
     (BodyEnd::Unread, body)

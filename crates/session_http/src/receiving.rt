@@ -226,7 +226,7 @@ pub(crate) fn receive<P: Port, S: Source, K: Sink, C: Clock>(
             Err(refuse(&mut conn.sink, reply))
         }
         BodyEnd::ReadFault => Err(ConnEnd::ReadFault),
-        BodyEnd::NoMemory => Err(ConnEnd::NoMemory),
-        BodyEnd::Unread => Err(ConnEnd::NoMemory),
+        BodyEnd::NoMemory => unreachable!(),
+        BodyEnd::Unread => unreachable!(),
     }
 }

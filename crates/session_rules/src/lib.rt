@@ -25,6 +25,3 @@ pub use replying::{
     head_too_large_reply, interim,
 };
 pub use wishing::{Wish, data_of, wish_of};
-
-#[cfg(test)]
-mod tests;

@@ -1,4 +1,4 @@
-ghost use Rattle.std.specs.Prelude.{◌≡◌, ◌⊎◌, ℕ, true, IfOk, Ok, Err};
+ghost use Rattle.std.specs.Prelude.{◌≡◌, ◌⊎◌, ℕ, true, IfOk, IsErrOf, Ok, Err};
 ghost use Rattle.byte_formats.specs.Spelling.{Spells, IsFirstBad, whole_at};
 ghost use Rattle.byte_formats.specs.Given.{Gives};
 ghost use Rattle.byte_formats.specs.declared.fault.CodecFault.TheVariants.{Bad, NoMemory};
@@ -12,7 +12,8 @@ use std::alloc::Global;
 
 #[tactic(auto, unfolding(crate::specs::Rows::next_numbers))]
 fn next_numbers_at(alloc: Global, bytes: &[u8]) -> Result<(Next, &[u8]), Stop>
-    ensures { Gives (λ x. (x.0, x.1.now)) result (next_numbers.read bytes.now) }
+    ensures given { Gives (λ x. (x.0, x.1.now)) result (next_numbers.read bytes.now) }
+    ensures memory { IsErrOf result Stop.NoMemory → ⊥ }
 {
     let (rev, rest) = u64::read(alloc, bytes)?;
     let (id, rest) = u64::read(alloc, rest)?;
@@ -31,7 +32,8 @@ fn next_numbers_at(alloc: Global, bytes: &[u8]) -> Result<(Next, &[u8]), Stop>
 
 #[tactic(auto, unfolding(crate::specs::Rows::counters_row))]
 fn counters_at(alloc: Global, bytes: &[u8]) -> Result<(Row, &[u8]), Stop>
-    ensures { Gives (λ x. (x.0, x.1.now)) result (counters_row.read bytes.now) }
+    ensures given { Gives (λ x. (x.0, x.1.now)) result (counters_row.read bytes.now) }
+    ensures memory { IsErrOf result Stop.NoMemory → ⊥ }
 {
     let (next, rest) = next_numbers_at(alloc, bytes)?;
     let (moment, rest) = u64::read(alloc, rest)?;

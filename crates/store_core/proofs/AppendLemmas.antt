@@ -25,14 +25,14 @@ pub idle_waits : (waiting : Option Cmd) → waiting ≡ None → is_some waiting
 idle_waits None idle waits = cc
 idle_waits (Some cmd) idle waits = cc
 
-module _ {D : Type 0} (d : disk.Ghosts D) (at : D) (j : Journal) (image : Kept) (waiting : Option Cmd) (sound : IsSound d at j image waiting) (idle : waiting ≡ None)
-    (mid : D) (bytes : List ℕ) (end : ℕ) (end_is : end ≡ end_in (state_of image)) (writes : IsTrue d.tells → Writes file.Blocks end (length bytes) (d.seen at) (d.seen mid) (d.may_leave at) (d.may_leave mid))
-    (run : IsTrue d.tells → LeavesOnly d.moment d.left_since at mid (LeavesTorn file.Blocks end (length bytes) (d.may_leave at))) where
-  writes_on : IsTrue d.tells → Writes file.Blocks (end_in (state_of image)) (length bytes) (d.seen at) (d.seen mid) (d.may_leave at) (d.may_leave mid)
-  writes_on told = subst (λ n. Writes file.Blocks n (length bytes) (d.seen at) (d.seen mid) (d.may_leave at) (d.may_leave mid)) end_is (writes told)
+module _ {D : Type 0} {n : ℕ} (d : disk.Ghosts D) (at : D) (j : Journal) (image : Kept) (waiting : Option Cmd) (sound : IsSound d at j image waiting) (idle : waiting ≡ None)
+    (mid : D) (bytes : List ℕ) (end : ℕ) (end_is : end ≡ end_in (state_of image)) (writes : IsTrue d.tells → Writes file.Blocks end n (d.seen at) (d.seen mid) (d.may_leave at) (d.may_leave mid))
+    (run : IsTrue d.tells → LeavesOnly d.moment d.left_since at mid (LeavesTorn file.Blocks end n (d.may_leave at))) where
+  writes_on : IsTrue d.tells → Writes file.Blocks (end_in (state_of image)) n (d.seen at) (d.seen mid) (d.may_leave at) (d.may_leave mid)
+  writes_on told = subst (λ place. Writes file.Blocks place n (d.seen at) (d.seen mid) (d.may_leave at) (d.may_leave mid)) end_is (writes told)
 
-  run_torn : IsTrue d.tells → LeavesOnly d.moment d.left_since at mid (LeavesTorn file.Blocks (end_in (state_of image)) (length bytes) (d.may_leave at))
-  run_torn told = subst (λ n. LeavesOnly d.moment d.left_since at mid (LeavesTorn file.Blocks n (length bytes) (d.may_leave at))) end_is (run told)
+  run_torn : IsTrue d.tells → LeavesOnly d.moment d.left_since at mid (LeavesTorn file.Blocks (end_in (state_of image)) n (d.may_leave at))
+  run_torn told = subst (λ place. LeavesOnly d.moment d.left_since at mid (LeavesTorn file.Blocks place n (d.may_leave at))) end_is (run told)
 
   before : IsTrue d.tells → IsSettledStore d at j (state_of image)
   before told = settled d at j image waiting sound idle told
@@ -41,14 +41,14 @@ module _ {D : Type 0} (d : disk.Ghosts D) (at : D) (j : Journal) (image : Kept) 
   pub sound_put : IsSound d mid j image waiting
   sound_put =
       let done = (subst (λ (w : Option Cmd). IsSound d at j image w) idle sound).0 in
-      let left : IsTrue d.tells → IsSettledStore d mid j (state_of image) = λ told. put_settled d at j (state_of image) (before told) mid (length bytes) (writes_on told) in
+      let left : IsTrue d.tells → IsSettledStore d mid j (state_of image) = λ told. put_settled d at j (state_of image) (before told) mid n (writes_on told) in
       subst (λ (w : Option Cmd). IsSound d mid j image w) (sym idle) (done, (idle_end d at j image waiting sound idle, left))
 
   pub same_put : IsTrue d.tells → SamePieces (state_of image) (d.seen mid file.Blocks) (d.seen at file.Blocks)
-  same_put told = put_below d at j (state_of image) (before told) mid (length bytes) (writes_on told)
+  same_put told = put_below d at j (state_of image) (before told) mid n (writes_on told)
 
   pub run_put : IsTrue d.tells → LeavesOnly d.moment d.left_since at mid (λ files. StandsFor files image waiting (d.seen mid file.Blocks))
-  run_put told = weaker d.moment d.left_since at mid _ _ (put_run d at j (state_of image) (before told) mid (length bytes) (writes_on told) (run_torn told)) (λ files stands. inl stands)
+  run_put told = weaker d.moment d.left_since at mid _ _ (put_run d at j (state_of image) (before told) mid n (writes_on told) (run_torn told)) (λ files stands. inl stands)
 
   pub around_put : (cmd : Cmd) → IsTrue d.tells → LeavesOnly d.moment d.left_since at mid (StandsAround (record { disk = at; image = image; waiting = waiting }) cmd (d.seen mid file.Blocks))
   around_put cmd told = weaker d.moment d.left_since at mid _ _ (run_put told) (λ files stands. ⊎_elim inl (λ s. inr (inl s)) stands)
@@ -75,7 +75,7 @@ module _ {D : Type 0} (d : disk.Ghosts D) (at : D) (j : Journal) (image : Kept) 
       -- the data stands behind the pieces of the state
       pub begins_after : IsTrue d.tells → BeginsWith (blocks_with (state_of image) bytes (d.seen at file.Blocks)) (d.seen new file.Blocks)
       begins_after told =
-          put_begins (state_of image) bytes (d.seen at file.Blocks) (d.seen new file.Blocks) (put_within d at j (state_of image) (before told) mid (length bytes) (writes_on told))
+          put_begins (state_of image) bytes (d.seen at file.Blocks) (d.seen new file.Blocks) (put_within d at j (state_of image) (before told) mid n (writes_on told))
           (ap (take (end_in (state_of image) + length bytes)) (same_blocks told)
           ∙ subst (λ n. take (n + length bytes) (d.seen mid file.Blocks) ≡ take n (d.seen at file.Blocks) ++ bytes) end_is (put told))
 

@@ -12,8 +12,9 @@ use Rattle.fh_model.proofs.PieceLaws.{step_end}
 use Rattle.fh_world.specs.declared.FileNo.{FileNo}
 use Rattle.fh_world.specs.declared.FileNo.TheVariants as file
 use Rattle.fh_world.specs.declared.Disk as disk
-use Rattle.fh_world.specs.Disk.{Files, Torn, Writes, LeavesOnly, LeavesTorn}
+use Rattle.fh_world.specs.Disk.{Files, Writes, LeavesOnly, LeavesTorn}
 use Rattle.fh_world.proofs.Moments.{started, weaker}
+use Rattle.fh_world.proofs.TornLemmas.{torn_same}
 use Rattle.gate_journal.specs.Journal.{slot_of, Keeps}
 use Rattle.gate_journal.specs.declared.Journal.{Journal}
 use Rattle.gate_journal.proofs.StateLemmas.{settled_left, settled_beside}
@@ -27,9 +28,6 @@ use Rattle.store_core.proofs.StateLemmas.{head_is_no_blocks, blocks_apart, stand
 
 -- ---- a file that is torn behind its first bytes
 
-not_torn : (at : ℕ) (bytes : List ℕ) → Torn at 0 bytes bytes
-not_torn at bytes = record { before = refl; after = refl; no_shorter = omega arith; no_longer = omega arith }
-
 -- the first bytes of both parts
 take-both : (n m : ℕ) (xs : List ℕ) → take (n + m) xs ≡ take n xs ++ take m (drop n xs)
 take-both n m xs =
@@ -39,23 +37,17 @@ take-both n m xs =
 
 -- ---- the call that puts
 
--- bytes without a piece are none
-pub no_bytes : (place : ℕ) (bytes : List ℕ) → piece_of place bytes ≡ None → bytes ≡ []
-no_bytes place [] is = refl
-no_bytes place (byte ∷ bytes) is = absurd cc
-
 module _ {D : Type 0} (d : disk.Ghosts D) (at : D) where
   -- where there is nothing to put
-  pub none_run : ((here : D) (files : Files) → d.left_since here (d.moment here) files → (g : FileNo) → d.may_leave here g (files g)) → (end : ℕ) (bytes : List ℕ) → bytes ≡ []
-      → LeavesOnly d.moment d.left_since at at (LeavesTorn file.Blocks end (length bytes) (d.may_leave at))
-  none_run only_now end bytes none = subst (λ (b : List ℕ). LeavesOnly d.moment d.left_since at at (LeavesTorn file.Blocks end (length b) (d.may_leave at))) (sym none)
-      (started d.moment d.left_since at (LeavesTorn file.Blocks end 0 (d.may_leave at)) (λ files left.
+  pub none_run : ((here : D) (files : Files) → d.left_since here (d.moment here) files → (g : FileNo) → d.may_leave here g (files g)) → (end n : ℕ)
+      → LeavesOnly d.moment d.left_since at at (LeavesTorn file.Blocks end n (d.may_leave at))
+  none_run only_now end n = started d.moment d.left_since at (LeavesTorn file.Blocks end n (d.may_leave at)) (λ files left.
       let may = only_now at files left in
-      record { torn = (files file.Blocks, may file.Blocks, not_torn end (files file.Blocks)); others = λ g other. may g }))
+      record { torn = (files file.Blocks, may file.Blocks, torn_same end n (files file.Blocks)); others = λ g other. may g })
 
   -- where it was put
   module _ (new : D) (end : ℕ) (bytes : List ℕ) (piece : Piece) (is : IsPieceOf piece end bytes) (stored : Stored d new piece bytes) where
-    pub put_bytes : Writes file.Blocks end (length bytes) (d.seen at) (d.seen new) (d.may_leave at) (d.may_leave new)
+    pub put_bytes : {n : ℕ} → Writes file.Blocks end n (d.seen at) (d.seen new) (d.may_leave at) (d.may_leave new)
         → take (end + length bytes) (d.seen new file.Blocks) ≡ take end (d.seen at file.Blocks) ++ bytes
     put_bytes writes =
         let slice : take (length bytes) (drop end (d.seen new file.Blocks)) ≡ bytes =

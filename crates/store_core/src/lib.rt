@@ -42,6 +42,3 @@ pub use bodies::{Body, RecordFault};
 pub use faults::{CommitFault, FetchFault, StoreFault};
 pub use head::HeadRead;
 pub use store::Store;
-
-#[cfg(test)]
-mod tests;

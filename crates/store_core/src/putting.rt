@@ -1,5 +1,5 @@
 //! The data of a command.
-ghost use Rattle.std.specs.Prelude.{◌≡◌, ◌++◌, ◌+◌, ◌<◌, ◌^◌, ◌≤◌, ℕ, List, length, take, IsTrue, IfErr, IfSome, OnOk};
+ghost use Rattle.std.specs.Prelude.{◌≡◌, ◌++◌, ◌+◌, ◌<◌, ◌^◌, ◌≤◌, ℕ, List, length, max, take, IsTrue, IfErr, IfSome, OnOk};
 ghost use Rattle.std.specs.Option.{option_to_list};
 ghost use Rattle.cmd_codec.specs.Commands.{HasSpelling, IsBlock};
 ghost use Rattle.fh_model.specs.Pieces.{data_of, named_in, piece_of, with_piece};
@@ -10,7 +10,7 @@ ghost use Rattle.sha2.specs.Sha256.{sha256};
 ghost use Rattle.store_core.specs.Store.{HoldsBlocks};
 
 use crate::CommitFault;
-use block_file::{PutFault, put_hashed};
+use block_file::{PutFault, ROOM_BYTES, put_hashed};
 use fh_model::{Act, BLOCK_BYTES, Bytes32, Cmd, Piece};
 use fh_world::Disk;
 use sha2::{Digest, Sha256};
@@ -107,8 +107,8 @@ pub(crate) fn put<D: Disk>(
     ensures limit { OnOk result (0 < length content.now → end + length content.now ≤ 2 ^ 62) }
     ensures held { OnOk result (0 < length content.now → IsTrue D.tells → HoldsBlocks D.Disk disk.new (end + length content.now) (end + length content.now)) }
     ensures bytes { OnOk result (IsTrue D.tells → take (end + length content.now) (D.seen disk.new Blocks) ≡ take end (D.seen disk.old Blocks) ++ content.now) }
-    ensures writes { IsTrue D.tells → Writes Blocks end (length content.now) (D.seen disk.old) (D.seen disk.new) (D.may_leave disk.old) (D.may_leave disk.new) }
-    ensures any_moment { IsTrue D.tells → LeavesOnly D.moment D.left_since disk.old disk.new (LeavesTorn Blocks end (length content.now) (D.may_leave disk.old)) }
+    ensures writes { IsTrue D.tells → Writes Blocks end (max (length content.now) ROOM_BYTES) (D.seen disk.old) (D.seen disk.new) (D.may_leave disk.old) (D.may_leave disk.new) }
+    ensures any_moment { IsTrue D.tells → LeavesOnly D.moment D.left_since disk.old disk.new (LeavesTorn Blocks end (max (length content.now) ROOM_BYTES) (D.may_leave disk.old)) }
     ensures place { D.place disk.new ≡ D.place disk.old }
     ensures cause { HasCause (D.faults disk.old) (D.faults disk.new) result }
     ensures once { CountsOnce (D.faults disk.old) (D.faults disk.new) result }

@@ -1,5 +1,6 @@
-use Rattle.std.proofs.Common.{ℕ, [], ◌++◌, List, refl, ◌∙◌, take, arith, vec_capacity}
-use Rattle.http_in.proofs.ReadingFacts.{place_inside, content_none, content_more, read_done, read_cut, read_bad, read_large, read_fault, read_memory, read_none}
+use Rattle.std.proofs.Common.{ℕ, [], ◌++◌, List, refl, ◌∙◌, length-append, take, arith, vec_capacity}
+use Rattle.std.proofs.lemmas.List.{length-take-le}
+use Rattle.http_in.proofs.ReadingFacts.{place_inside, content_none, content_more, read_done, read_cut, read_bad, read_large, read_fault, read_none}
 use Rattle.session_http.proofs.Kept.{few_none, gone_on, gone_unkept, gone_whole, holds_gone, holds_whole}
 use Rattle.session_http.proofs.bodies.read_body.Goals as goal
 use Rattle.session_http.proofs.bodies.read_body.Goals.{then-keeps, else-keeps}
@@ -19,6 +20,7 @@ portions-init g c =
           | then-keeps w ↦ gone_whole c.args.keeps (vec_capacity c.args.buffer.now) c.if-keeps.body w.body-is
           | else-keeps w ↦ gone_unkept c.args.keeps (vec_capacity c.args.buffer.now) c.if-keeps.body w.body-is w.if-keeps.false
         ];
+        many = omega arith;
       };
       room = omega arith;
       few = few_none c.args.buffer.now.items c.requires.empty;
@@ -30,6 +32,7 @@ pub portions-preserved : goal.portions-preserved
 portions-preserved g c =
     let so = c.portions.invariant.so_far in
     let more : List ℕ = take c.in-Bytes.count c.body.new.buf in
+    let fits = c.in-Bytes.ensures.fits in
     record {
       so_far = record {
         content = so.content ++ more;
@@ -39,6 +42,7 @@ portions-preserved g c =
         holds = c.keep-body.ensures.more so.content so.holds;
         gone = gone_on c.args.keeps (vec_capacity c.args.buffer.now) (vec_capacity c.portions.buffer) c.portions.body c.keep-body.result c.portions.buffer.items
             so.content more c.portions.invariant.room so.holds so.gone c.keep-body.ensures.loses;
+        many = omega (arith, so.many, fits.0, length-take-le c.in-Bytes.count c.body.new.buf fits.1, length-append so.content more);
       };
       room = omega (arith, c.portions.invariant.room, c.keep-body.ensures.room);
       few = c.keep-body.ensures.few;
@@ -56,6 +60,7 @@ returns-in-Done-clause-read g c =
           [] so.content so.so_far c.body.new.buf c.in-Done.ensures.step;
       holds = so.holds;
       gone = so.gone;
+      many = λ e. cc;
     }
 
 pub returns-in-Cut-clause-read : goal.returns-in-Cut-clause-read
@@ -68,6 +73,7 @@ returns-in-Cut-clause-read g c =
           [] so.content so.so_far c.body.new.buf c.in-Cut.ensures.step;
       holds = so.holds;
       gone = so.gone;
+      many = λ e. cc;
     }
 
 pub returns-in-Bad-clause-read : goal.returns-in-Bad-clause-read
@@ -80,6 +86,7 @@ returns-in-Bad-clause-read g c =
           [] so.content so.so_far c.body.new.buf c.in-Bad.ensures.step;
       holds = so.holds;
       gone = so.gone;
+      many = λ e. cc;
     }
 
 pub returns-in-TooLarge-clause-read : goal.returns-in-TooLarge-clause-read
@@ -92,6 +99,7 @@ returns-in-TooLarge-clause-read g c =
           [] so.content so.so_far c.body.new.buf c.in-TooLarge.ensures.step;
       holds = so.holds;
       gone = so.gone;
+      many = λ e. cc;
     }
 
 pub returns-in-ReadFault-clause-read : goal.returns-in-ReadFault-clause-read
@@ -104,19 +112,11 @@ returns-in-ReadFault-clause-read g c =
           [] so.content so.so_far c.body.new.buf c.in-ReadFault.ensures.step;
       holds = so.holds;
       gone = so.gone;
+      many = λ e. cc;
     }
 
-pub returns-in-NoMemory-clause-read : goal.returns-in-NoMemory-clause-read
-returns-in-NoMemory-clause-read g c =
-    let so = c.portions.invariant.so_far in
-    record {
-      content = so.content;
-      read = read_memory g.S.Source.given g.S.Source.left c.args.source.now c.portions.source c.body.new.source c.args.reader.now.held
-          c.portions.reader.held c.body.new.self.held c.args.reader.now.state c.portions.reader.state c.body.new.self.state
-          [] so.content so.so_far c.body.new.buf c.in-NoMemory.ensures.step;
-      holds = so.holds;
-      gone = so.gone;
-    }
+pub unreachable-requires : goal.unreachable-requires
+unreachable-requires g c = c.in-NoMemory.ensures.step.call.step_is
 
 pub returns-clause-read : goal.returns-clause-read
 returns-clause-read g c =
@@ -127,4 +127,5 @@ returns-clause-read g c =
           c.args.reader.now.state c.portions.reader.state [] so.content so.so_far;
       holds = so.holds;
       gone = so.gone;
+      many = λ e. omega (arith, so.many, c.portions-test.false);
     }

@@ -4,7 +4,7 @@ use Rattle.session_rules.specs.Replies.{bad_request, body_too_large}
 use Rattle.session_http.specs.Bodies.{GoneOnlyFor}
 use Rattle.session_http.specs.Points.{called_if}
 use Rattle.session_http.specs.Talk.{moment, terms}
-use Rattle.session_http.proofs.Heard.{hears_all, passes_body, refused_bad, refused_large, stops_cut, stops_memory, stops_read}
+use Rattle.session_http.proofs.Heard.{hears_all, passes_body, refused_bad, refused_large, not_unread, stops_cut, stops_read}
 use Rattle.session_http.proofs.Receives.{beside, stops_said, written}
 use Rattle.session_http.proofs.receiving.receive.Goals as goal
 
@@ -111,24 +111,11 @@ returns-in-ReadFault-clause-err g c =
     read.place read.inside read.fresh read.added body.content read.moves.gave read.moves.took by read.gained
     (c.read_body-end.ensures.fault c.in-ReadFault.is)
 
-pub returns-in-NoMemory-clause-err : goal.returns-in-NoMemory-clause-err
-returns-in-NoMemory-clause-err g c =
-    let P = g.P.View in let S = g.S.Source in let K = g.K.Sink in
-    let t = terms P.alone (g.C.Clock.second c.args.clock.now) c.args.admin.now in
-    let conn = c.args.conn.now in
-    let begun = c.read_head.new.conn in
-    let old = moment P S K c.args.port.now conn.source conn.sink conn.answered conn.reader.held in
-    let mid = moment P S K c.read_head.new.port begun.source begun.sink begun.answered begun.reader.held in
-    let now = moment P S K c.read_head.new.port c.read_body-end.new.source begun.sink begun.answered c.read_body-end.new.reader.held in
-    let body = c.read_body-end.ensures.read in
-    let read = body.read in
-    let by = beside P S K (g.C.Clock.second c.args.clock.now) c.args.admin.now begun.answered c.read_head.new.port begun.source c.read_body-end.new.source begun.sink
-    begun.reader.held c.read_body-end.new.reader.held c.read_body-end.ensures.later in
-    stops_memory t old mid now (called_if c.in-Ok.opened.call) c.in-Ok.opened.head c.in-Ok.ensures.ok begun.reader.state c.in-Ok.ensures.inside
-    read.place read.inside read.fresh read.added body.content read.moves.gave read.moves.took by read.gained
+pub unreachable-requires : goal.unreachable-requires
+unreachable-requires g c = c.read_body-end.ensures.memory c.in-NoMemory.is
 
-pub returns-in-Unread-clause-err : goal.returns-in-Unread-clause-err
-returns-in-Unread-clause-err g c =
+pub unreachable-requires-in-Unread : goal.unreachable-requires-in-Unread
+unreachable-requires-in-Unread g c =
     let P = g.P.View in let S = g.S.Source in let K = g.K.Sink in
     let t = terms P.alone (g.C.Clock.second c.args.clock.now) c.args.admin.now in
     let conn = c.args.conn.now in
@@ -140,8 +127,9 @@ returns-in-Unread-clause-err g c =
     let read = body.read in
     let by = beside P S K (g.C.Clock.second c.args.clock.now) c.args.admin.now begun.answered c.read_head.new.port begun.source c.read_body-end.new.source begun.sink
     begun.reader.held c.read_body-end.new.reader.held c.read_body-end.ensures.later in
-    stops_memory t old mid now (called_if c.in-Ok.opened.call) c.in-Ok.opened.head c.in-Ok.ensures.ok begun.reader.state c.in-Ok.ensures.inside
+    not_unread t old mid now (called_if c.in-Ok.opened.call) c.in-Ok.opened.head c.in-Ok.ensures.ok begun.reader.state c.in-Ok.ensures.inside
     read.place read.inside read.fresh read.added body.content read.moves.gave read.moves.took by read.gained
+    c.read_body-end.new.reader.held (rw c.in-Unread.is at read.came) (body.many c.in-Unread.is)
 
 pub returns-in-Done-clause-read_told : goal.returns-in-Done-clause-read_told
 returns-in-Done-clause-read_told g c = c.read_body-end.ensures.told (λ e. let is = c.in-Done.is in cc) ∙ c.in-Ok.ensures.read_told
@@ -154,12 +142,6 @@ returns-in-Bad-clause-read_told g c = λ _. c.read_body-end.ensures.told (λ e. 
 
 pub returns-in-TooLarge-clause-read_told : goal.returns-in-TooLarge-clause-read_told
 returns-in-TooLarge-clause-read_told g c = λ _. c.read_body-end.ensures.told (λ e. let is = c.in-TooLarge.is in cc) ∙ c.in-Ok.ensures.read_told
-
-pub returns-in-NoMemory-clause-read_told : goal.returns-in-NoMemory-clause-read_told
-returns-in-NoMemory-clause-read_told g c = λ _. c.read_body-end.ensures.told (λ e. let is = c.in-NoMemory.is in cc) ∙ c.in-Ok.ensures.read_told
-
-pub returns-in-Unread-clause-read_told : goal.returns-in-Unread-clause-read_told
-returns-in-Unread-clause-read_told g c = λ _. c.read_body-end.ensures.told (λ e. let is = c.in-Unread.is in cc) ∙ c.in-Ok.ensures.read_told
 
 pub returns-in-ReadFault-clause-read_told : goal.returns-in-ReadFault-clause-read_told
 returns-in-ReadFault-clause-read_told g c = λ other. absurd (other refl)

@@ -1,12 +1,8 @@
-use Rattle.std.proofs.Common.{rules, ◌≡◌, None}
-use Rattle.fh_model.specs.Pieces.{piece_of}
-use Rattle.store_core.proofs.PutLemmas.{no_bytes, none_run, put_bytes}
+use Rattle.store_core.proofs.PutLemmas.{none_run, put_bytes}
 use Rattle.store_core.proofs.putting.put.Goals as goal
 
 pub returns-in_default-clause-any_moment : goal.returns-in_default-clause-any_moment
-returns-in_default-clause-any_moment g c = λ told.
-    let none : piece_of c.args.end c.args.content.now ≡ None = search rules in
-    none_run g.D.Disk c.args.disk.now g.met.D.Disk.only_now c.args.end c.args.content.now (no_bytes c.args.end c.args.content.now none)
+returns-in_default-clause-any_moment g c = λ told. none_run g.D.Disk c.args.disk.now g.met.D.Disk.only_now c.args.end _
 
 pub returns-in-Ok-clause-bytes : goal.returns-in-Ok-clause-bytes
 returns-in-Ok-clause-bytes g c = λ told.
