@@ -1,20 +1,18 @@
 -- The value of a field has the field's kind.
 use Rattle.std.proofs.Common.{◌≡◌, ℕ, ◌&&◌, Bool, true, false, if◌then◌else◌, List, [], ◌∷◌, Option, None, Some, refl, subst, sym}
 use Rattle.std.proofs.lemmas.Bool.{and_parts}
-use Rattle.std.specs.Option.{option_and_then}
 use Rattle.std.specs.declared.result.Result.{Result}
 use Rattle.std.specs.declared.result.Result.TheVariants.{Ok, Err}
 use Rattle.serde_json.specs.Data.{Data, null, boolean, number, string, array, object}
-use Rattle.serde_json.specs.Find.{as_number, as_u64}
 use Rattle.api_json.specs.declared.fields.Field.{Field}
 use Rattle.api_json.specs.declared.fields.Kind.{Kind}
 use Rattle.api_json.specs.declared.fields.Kind.TheVariants as kind
 use Rattle.api_json.specs.declared.reading.ReadFault.{ReadFault}
 use Rattle.api_json.specs.declared.values.Held.{Held}
-use Rattle.api_json.specs.declared.values.Held.TheVariants.{Text, Flag, Number, Moment, Digest}
+use Rattle.api_json.specs.declared.values.Held.TheVariants.{Text, Flag, Moment, Digest}
 use Rattle.api_json.specs.declared.values.Held.TheVariants as held
 use Rattle.api_json.specs.Requests.{begins_with, fit, has_kind, rest_of}
-use Rattle.api_json.specs.Values.{before, checked, digest_in, digest_of, flag_in, held_in, keeps, mode_in, mode_of, moment_in, number_in, small_number, text_in, told_digest, told_mode, told_moment, value_of, values_of}
+use Rattle.api_json.specs.Values.{before, checked, digest_in, digest_of, flag_in, held_in, keeps, mode_in, mode_of, moment_in, text_in, told_digest, told_mode, told_moment, value_of, values_of}
 use Rattle.fh_model.specs.declared.commands.Mode.{Mode}
 use Rattle.fh_model.specs.declared.commands.Mode.TheVariants as mode
 use Rattle.fh_model.specs.declared.pieces.Bytes32.{Bytes32}
@@ -47,18 +45,6 @@ flag_kind default (Some (number n)) made e = absurd (cc)
 flag_kind default (Some (string s)) made e = absurd (cc)
 flag_kind default (Some (array ds)) made e = absurd (cc)
 flag_kind default (Some (object ms)) made e = absurd (cc)
-
-small_kind : (test : Bool) (n : ℕ) (made : Held) → (if test then Some (Number n) else None) ≡ Some made → has_kind kind.Number made ≡ true
-small_kind true n made e = let is : Number n ≡ made = cc in subst (λ held. has_kind kind.Number held ≡ true) is refl
-small_kind false n made e = absurd (cc)
-
-small_found : (found : Option ℕ) (made : Held) → option_and_then small_number found ≡ Some made → has_kind kind.Number made ≡ true
-small_found None made e = absurd (cc)
-small_found (Some n) made e = small_kind _ n made e
-
-number_kind : (found : Option Data) (made : Held) → number_in found ≡ Some made → has_kind kind.Number made ≡ true
-number_kind None made e = absurd (cc)
-number_kind (Some found) made e = small_found (option_and_then as_u64 (as_number found)) made e
 
 no_moment : (made : Held) → Some (Moment None) ≡ Some made → has_kind kind.Moment made ≡ true
 no_moment made e = let is : Moment None ≡ made = cc in subst (λ held. has_kind kind.Moment held ≡ true) is refl
@@ -111,7 +97,6 @@ mode_kind (Some (object ms)) made e = told_mode_kind (mode_of (object ms)) made 
 held_kind : (k : Kind) (found : Option Data) (made : Held) → held_in k found ≡ Some made → has_kind k made ≡ true
 held_kind kind.Text found made e = text_kind found made e
 held_kind (kind.Flag default) found made e = flag_kind default found made e
-held_kind kind.Number found made e = number_kind found made e
 held_kind kind.Moment found made e = moment_kind found made e
 held_kind kind.Digest found made e = digest_kind found made e
 held_kind kind.Mode found made e = mode_kind found made e

@@ -1,4 +1,5 @@
 pub mod FieldKinds
 mod Joins
+mod ModeExamples
 pub mod Runs
 mod Said

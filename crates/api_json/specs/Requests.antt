@@ -13,13 +13,12 @@ use Rattle.api_json.specs.declared.fields.Field.{Field}
 use Rattle.api_json.specs.declared.fields.Kind.{Kind}
 use Rattle.api_json.specs.declared.fields.Kind.TheVariants as kind
 use Rattle.api_json.specs.declared.values.Held.{Held}
-use Rattle.api_json.specs.declared.values.Held.TheVariants.{Text, Flag, Number, Moment, Digest}
+use Rattle.api_json.specs.declared.values.Held.TheVariants.{Text, Flag, Moment, Digest}
 use Rattle.api_json.specs.declared.values.Held.TheVariants as held
 
 abbrev pub has_kind : Kind → Held → Bool
 has_kind kind.Text (Text text) = true
 has_kind (kind.Flag default) (Flag flag) = true
-has_kind kind.Number (Number number) = true
 has_kind kind.Moment (Moment moment) = true
 has_kind kind.Digest (Digest digest) = true
 has_kind kind.Mode (held.Mode told) = true

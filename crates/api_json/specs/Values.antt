@@ -1,12 +1,12 @@
 -- The value of a field: what an argument has at its key, where this keeps the field's rule.
-use Rattle.std.specs.Prelude.{ℕ, ◌==◌, ◌||◌, ◌&&◌, ◌^◌, ◌-◌, nat_le, codes, Bool, true, false, not, if◌then◌else◌, List, [], ◌∷◌, drop, length, take, Option, None, Some, option_and_then, Result, Ok, Err}
+use Rattle.std.specs.Prelude.{ℕ, ◌==◌, ◌||◌, ◌&&◌, nat_le, codes, Bool, true, false, not, if◌then◌else◌, List, [], ◌∷◌, drop, length, take, Option, None, Some, Result, Ok, Err}
 use Rattle.std.specs.Char.{is_ascii_digit}
 use Rattle.std.specs.List.{list_all}
 use Rattle.std.specs.Str.{bytes_eq}
 use Rattle.hex.specs.Hex.{decode_sized}
 use Rattle.hex.specs.declared.FromHexError.{FromHexError}
 use Rattle.serde_json.specs.Data.{Data, null, boolean, string}
-use Rattle.serde_json.specs.Find.{as_number, as_u64, get}
+use Rattle.serde_json.specs.Find.{get}
 use Rattle.fh_model.specs.declared.commands.Mode.{Mode}
 use Rattle.fh_model.specs.declared.commands.Mode.TheVariants as mode
 use Rattle.fh_model.specs.declared.limits.TheConstants.{NAMESPACE_MAX_DIGITS}
@@ -21,7 +21,7 @@ use Rattle.api_json.specs.declared.fields.Rule.TheVariants.{BelowRoot, Only, Add
 use Rattle.api_json.specs.declared.reading.ReadFault.{ReadFault}
 use Rattle.api_json.specs.declared.reading.ReadFault.TheVariants.{BadField}
 use Rattle.api_json.specs.declared.values.Held.{Held}
-use Rattle.api_json.specs.declared.values.Held.TheVariants.{Text, Flag, Number, Moment, Digest}
+use Rattle.api_json.specs.declared.values.Held.TheVariants.{Text, Flag, Moment, Digest}
 use Rattle.api_json.specs.declared.values.Held.TheVariants as held
 use Rattle.api_json.specs.Fields.{name_text}
 
@@ -37,16 +37,6 @@ flag_in default None = Some (Flag default)
 flag_in default (Some null) = Some (Flag default)
 flag_in default (Some (boolean flag)) = Some (Flag flag)
 flag_in default (Some _) = None
-
-abbrev pub small_number : ℕ → Option Held
-small_number n = if nat_le n (2 ^ 53 - 1) then Some (Number n) else None
-
--- a number without a sign, a point or an exponent
-abbrev pub whole_number : Data → Option Held
-whole_number found = option_and_then small_number (option_and_then as_u64 (as_number found))
-
-abbrev pub number_in : Option Data → Option Held
-number_in found = option_and_then whole_number found
 
 -- a moment is told by its own text alone
 abbrev pub told_moment : Option ℕ → Option Held
@@ -111,7 +101,6 @@ mode_in (Some found) = told_mode (mode_of found)
 abbrev pub held_in : Kind → Option Data → Option Held
 held_in kind.Text found = text_in found
 held_in (kind.Flag default) found = flag_in default found
-held_in kind.Number found = number_in found
 held_in kind.Moment found = moment_in found
 held_in kind.Digest found = digest_in found
 held_in kind.Mode found = mode_in found

@@ -44,9 +44,6 @@ pub(crate) enum Kind {
     /// A truth value, or the default where there is none.
     Flag { default: bool },
 
-    /// A whole number from 0 to `NUMBER_MAX`, which has to be there.
-    Number,
-
     /// The text of a moment, or nothing.
     Moment,
 
@@ -79,9 +76,6 @@ pub(crate) struct Field {
     pub(crate) kind: Kind,
     pub(crate) rule: Rule,
 }
-
-/// The greatest number that a field may hold.
-pub(crate) const NUMBER_MAX: u64 = (1 << 53) - 1;
 
 static CREATE_FOLDER: [Field; 2] = [
     Field {

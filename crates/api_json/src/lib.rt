@@ -30,6 +30,3 @@ pub use complaints::{ArgumentFault, complaint};
 pub use fields::FieldName;
 pub use reading::{ReadFault, read};
 pub use writing::write;
-
-#[cfg(test)]
-mod tests;

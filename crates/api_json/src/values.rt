@@ -1,10 +1,10 @@
 //! The values of an argument's fields.
 ghost use Rattle.std.specs.Prelude.{◌≡◌, ◌≢◌, IfOk, IfErr, Ok, Err, option_map};
 ghost use Rattle.serde_json.specs.View.{view};
-ghost use Rattle.api_json.specs.Values.{flag_in, held_in, number_in, text_in, value_of, values_of};
+ghost use Rattle.api_json.specs.Values.{flag_in, held_in, text_in, value_of, values_of};
 ghost use Rattle.api_json.specs.declared.reading.ReadFault.TheVariants as fault;
 
-use crate::fields::{Field, Kind, NUMBER_MAX};
+use crate::fields::{Field, Kind};
 use crate::modes::mode_in;
 use crate::optionals::{digest_in, moment_in};
 use crate::reading::ReadFault;
@@ -19,7 +19,6 @@ use std::collections::VecDeque;
 pub(crate) enum Held {
     Text(Text),
     Flag(bool),
-    Number(u64),
     Moment(Option<u64>),
     Digest(Option<Bytes32>),
     Mode(Mode),
@@ -48,17 +47,6 @@ fn flag_in(default: bool, found: Option<&Value>) -> Option<Held>
     }
 }
 
-fn number_in(found: Option<&Value>) -> Option<Held>
-    ensures { result ≡ number_in (option_map (λ v. view v.now) found.entry) }
-{
-    let number = found?.as_u64()?;
-    if number <= NUMBER_MAX {
-        Some(Held::Number(number))
-    } else {
-        None
-    }
-}
-
 /// What is found at a field's key, as a value of its kind.
 fn held_in(alloc: Global, kind: Kind, found: Option<&Value>) -> Result<Option<Held>, NoMemory>
     ensures { IfOk result (λ value. value ≡ held_in kind (option_map (λ v. view v.now) found.entry)) }
@@ -66,7 +54,6 @@ fn held_in(alloc: Global, kind: Kind, found: Option<&Value>) -> Result<Option<He
     match kind {
         Kind::Text => text_in(alloc, found),
         Kind::Flag { default } => Ok(flag_in(default, found)),
-        Kind::Number => Ok(number_in(found)),
         Kind::Moment => moment_in(alloc, found),
         Kind::Digest => Ok(digest_in(found)),
         Kind::Mode => Ok(mode_in(found)),

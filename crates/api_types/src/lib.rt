@@ -18,6 +18,3 @@ pub use answer::Answer;
 pub use request::Request;
 pub use route::Route;
 pub use stamps::{read_stamp, stamp};
-
-#[cfg(test)]
-mod tests;

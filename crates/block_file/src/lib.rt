@@ -10,7 +10,4 @@
 
 mod pieces;
 
-pub use pieces::{PutFault, ROOM_BYTES, get, put, put_hashed};
-
-#[cfg(test)]
-mod tests;
+pub use pieces::{PutFault, get, put, put_hashed};

@@ -9,17 +9,8 @@ ghost use Rattle.fh_model.specs.Content.{slice_of, LiesIn};
 ghost use Rattle.block_file.specs.Stored.{IsPieceOf, Stored};
 
 use fh_model::{BLOCK_BYTES, Bytes32, Piece};
-use fh_world::{Disk, Failed, FileNo, write_through};
+use fh_world::{Disk, Failed, FileNo, ROOM_BYTES, extend_ahead, write_through};
 use sha2::{Digest, Sha256};
-
-/// How far behind a piece's place its `put` may write, in bytes, where the piece isn't longer.
-pub const ROOM_BYTES: usize = 65_536;
-
-/// What the file is extended by at once.
-const ROOM: [u8; ROOM_BYTES] = [0; ROOM_BYTES];
-
-/// Where the file is extended for the first time, in bytes. Before it, as in a new store, a file is as long as its pieces.
-const FIRST_ROOM_AT: u64 = 512;
 
 /// A longer piece is put without room, which would be written twice for the sake of a few pieces.
 const SMALL_PIECE_BYTES: usize = 8_192;
@@ -96,9 +87,7 @@ pub fn put_hashed<D: Disk>(
     })
 }
 
-/// Extends the file by zeros where a small piece of so many bytes at `end` reaches the next place at which this is done,
-/// so that the pieces that come into them change no length of the file, which their syncs would have to write too. The
-/// length isn't asked for: that alone makes the next sync write more.
+/// Extends the file ahead, where the piece is small.
 fn make_room<D: Disk>(disk: &mut D, end: u64, count: usize) -> Result<(), Failed>
     requires within { IsTrue D.tells → end ≤ length (D.seen disk.old Blocks) }
     ensures writes { IsTrue D.tells → Writes Blocks end ROOM_BYTES (D.seen disk.old) (D.seen disk.new) (D.may_leave disk.old) (D.may_leave disk.new) }
@@ -107,18 +96,10 @@ fn make_room<D: Disk>(disk: &mut D, end: u64, count: usize) -> Result<(), Failed
     ensures cause { HasCause (D.faults disk.old) (D.faults disk.new) result }
     ensures once { CountsOnce (D.faults disk.old) (D.faults disk.new) result }
 {
-    if SMALL_PIECE_BYTES < count || !reaches_room(end, count as u64) {
+    if SMALL_PIECE_BYTES < count {
         return Ok(());
     }
-    disk.write_at(FileNo::Blocks, end, &ROOM)
-}
-
-/// Whether so many bytes from a place on reach one at which the file is extended: the first such place, or a multiple of
-/// the room.
-fn reaches_room(from: u64, count: u64) -> bool {
-    let next = from.saturating_add(count);
-    let step = ROOM_BYTES as u64;
-    (from < FIRST_ROOM_AT && FIRST_ROOM_AT <= next) || from / step < next / step
+    extend_ahead(disk, FileNo::Blocks, end, count)
 }
 
 /// Fills the buffer, which has the piece's length, with the bytes of a piece that lies in the file. Nothing is changed.

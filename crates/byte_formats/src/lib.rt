@@ -35,6 +35,3 @@ pub use fault::CodecFault;
 pub use field::{Field, put_byte};
 pub use moment::{moment_at, optional_moment_at};
 pub use stop::Stop;
-
-#[cfg(test)]
-mod tests;

@@ -30,6 +30,3 @@ mod writing;
 pub use reading::decode;
 pub use spelling::has_spelling;
 pub use writing::encode;
-
-#[cfg(test)]
-mod tests;

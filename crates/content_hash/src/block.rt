@@ -1,7 +1,6 @@
-ghost use Rattle.std.specs.Prelude.{◌≡◌, ◌≤◌, [], length, IfSome, IfNone};
-ghost use Rattle.sha2.specs.Sha256.{sha256};
+ghost use Rattle.std.specs.Prelude.{◌≡◌, ◌≤◌, [], length, IfNone};
 ghost use Rattle.fh_model.specs.declared.limits.TheConstants.{BLOCK_BYTES};
-ghost use Rattle.fh_model.specs.Content.{content_hash};
+ghost use Rattle.fh_model.specs.Content.{IsDigestOf, content_hash};
 
 use crate::of_digests;
 use fh_model::Bytes32;
@@ -10,7 +9,7 @@ use sha2::{Digest, Sha256};
 /// The digest of a content of at most one block, none where it has no byte, and its content hash.
 pub fn of_block(content: &[u8]) -> (Option<Bytes32>, Bytes32)
     requires { length content.now ≤ BLOCK_BYTES }
-    ensures some { IfSome result.0 (λ digest. digest.bytes ≡ sha256 content.now) }
+    ensures some { IsDigestOf content.now result.0 }
     ensures none { IfNone result.0 (content.now ≡ []) }
     ensures hash { result.1.bytes ≡ content_hash content.now }
 {

@@ -16,6 +16,3 @@ mod joined;
 pub use block::of_block;
 pub use hasher::{Filled, Hasher};
 pub use joined::of_digests;
-
-#[cfg(test)]
-mod tests;

@@ -1,8 +1,9 @@
 -- The content of a file: the blocks that its hash is made of, and the pieces that hold it.
-use Rattle.std.specs.Prelude.{◌≡◌, ℕ, zero, suc, ◌+◌, ◌*◌, ◌/◌, ◌<◌, ◌≤◌, ◌==◌, ◌&&◌, Bool, true, nat_le, nat_lt, List, [], ◌∷◌, ◌++◌, length, take, drop}
+use Rattle.std.specs.Prelude.{◌≡◌, ℕ, zero, suc, ◌+◌, ◌*◌, ◌/◌, ◌<◌, ◌≤◌, ◌==◌, ◌&&◌, Bool, true, nat_le, nat_lt, List, [], ◌∷◌, ◌++◌, length, take, drop, Option, IfSome}
 use Rattle.std.specs.List.{flat_map}
 use Rattle.sha2.specs.Sha256.{sha256}
 use Rattle.fh_model.specs.declared.limits.TheConstants.{BLOCK_BYTES}
+use Rattle.fh_model.specs.declared.pieces.Bytes32.{Bytes32}
 use Rattle.fh_model.specs.declared.pieces.Piece.{Piece}
 
 -- ---- blocks
@@ -32,6 +33,10 @@ blocks_of content = whole_blocks content ++ last_block (last_part content)
 -- the digest of the joined digests of the blocks
 abbrev pub content_hash : List ℕ → List ℕ
 content_hash content = sha256 (flat_map sha256 (blocks_of content))
+
+-- the digest, where it is known, is that of these bytes
+abbrev pub IsDigestOf : List ℕ → Option Bytes32 → Type 0
+IsDigestOf bytes digest = IfSome digest (λ known. known.bytes ≡ sha256 bytes)
 
 -- ---- pieces
 

@@ -1,4 +1,5 @@
-ghost use Rattle.std.specs.Prelude.{◌≡◌, Ok};
+ghost use Rattle.std.specs.Prelude.{◌≡◌, ◌≤◌, length, Ok};
+ghost use Rattle.fh_model.specs.Pieces.{data_of};
 
 use crate::{Copies, NoMemory, Piece, Text};
 
@@ -57,6 +58,19 @@ pub struct Cmd {
     pub seat: u64,
     pub at: u64,
     pub act: Act,
+}
+
+impl Act {
+    /// What of the bytes of a request is the act's data: all of an upload's, and none of another's.
+    pub fn data_in<'a>(&self, bytes: &'a [u8]) -> &'a [u8]
+        ensures data { result.now ≡ data_of self.now bytes.now }
+        ensures no_more { length result.now ≤ length bytes.now }
+    {
+        match self {
+            Act::MakeFolder { .. } => &[],
+            Act::Upload { .. } => bytes,
+        }
+    }
 }
 
 impl Copies for Mode {

@@ -42,6 +42,3 @@ pub use sessions::{BlockPiece, BlockPieces, Session};
 pub use state::{Namespace, Next, User};
 pub use text::Text;
 pub use verdicts::{Kind, Verdict};
-
-#[cfg(test)]
-mod tests;

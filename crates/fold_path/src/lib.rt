@@ -16,6 +16,3 @@ pub use fault::PathFault;
 pub use folding::fold;
 pub use numbers::{is_lower_hex, revision};
 pub use reading::parse;
-
-#[cfg(test)]
-mod tests;

@@ -4,18 +4,10 @@ ghost use Rattle.fh_world.specs.Causes.{HasCause, CountsOnce};
 ghost use Rattle.gate_journal.specs.Slot.{IsBefore, IsBeforeOrAfter};
 
 use crate::{AppendFault, Record};
-use fh_world::{Disk, Failed, FileNo, write_through};
+use fh_world::{Disk, Failed, FileNo, extend_ahead, write_through};
 
 /// The byte of a gate that stands open.
 pub(crate) const OPEN_GATE: u8 = 0xa5;
-
-/// What a slot is extended by at once.
-const ROOM: [u8; ROOM_BYTES] = [0; ROOM_BYTES];
-
-const ROOM_BYTES: usize = 65_536;
-
-/// Where a slot is extended for the first time, in bytes. Before it, as in a new store, a slot is as long as its records.
-const FIRST_ROOM_AT: u64 = 512;
 
 /// Where the records of a slot end.
 #[derive(Drop)]
@@ -86,9 +78,7 @@ impl Journal {
         self.put(disk, framed)
     }
 
-    /// Extends the slot by zeros where so many bytes behind the gate reach the next place at which this is done, so that
-    /// the records that come into them change no length of the file, which their syncs would have to write too. The
-    /// length isn't asked for: that alone makes the next sync write more.
+    /// Extends the slot ahead, where it is so many bytes longer with a record. The gate stays as it is.
     fn make_room<D: Disk>(&self, disk: &mut D, count: usize) -> Result<(), Failed>
         requires settled { IsTrue D.tells → (bodies : List (List ℕ)) × Settled D.Disk disk.old self.now bodies }
         ensures settled { IsTrue D.tells → (bodies : List (List ℕ)) → Settled D.Disk disk.old self.now bodies → Settled D.Disk disk.new self.now bodies }
@@ -99,10 +89,7 @@ impl Journal {
         ensures cause { HasCause (D.faults disk.old) (D.faults disk.new) result }
         ensures once { CountsOnce (D.faults disk.old) (D.faults disk.new) result }
     {
-        if !reaches_room(self.end, count as u64) {
-            return Ok(());
-        }
-        disk.write_at(self.slot, self.end + 1, &ROOM)
+        extend_ahead(disk, self.slot, self.end + 1, count)
     }
 
     /// `append` in a slot that has the room.
@@ -157,12 +144,4 @@ impl Journal {
         self.waiting = None;
         Ok(())
     }
-}
-
-/// Whether so many bytes from a place on reach one at which a slot is extended: the first such place, or a multiple of the
-/// room.
-fn reaches_room(from: u64, count: u64) -> bool {
-    let next = from.saturating_add(count);
-    let step = ROOM_BYTES as u64;
-    (from < FIRST_ROOM_AT && FIRST_ROOM_AT <= next) || from / step < next / step
 }

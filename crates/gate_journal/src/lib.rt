@@ -36,6 +36,3 @@ pub use journal::Journal;
 pub use laying::lay;
 pub use reading::open;
 pub use record::{Record, frame};
-
-#[cfg(test)]
-mod tests;

@@ -41,12 +41,12 @@ pub enum FetchFault {
 
 /// The way from a connection to the machine.
 pub trait Port: View {
-    ghost use Rattle.std.specs.Prelude.{◌≡◌, ◌∷◌, ◌≤◌, [], length, List, Option, Some, None, IfOk, IfSome, OnOk, OnErr, IsErrOf, IsTrue};
+    ghost use Rattle.std.specs.Prelude.{◌≡◌, ◌∷◌, ◌≤◌, [], length, List, Option, Some, None, IfOk, OnOk, OnErr, IsErrOf, IsTrue};
     ghost use Rattle.cmd_codec.specs.Commands.{HasSpelling};
     ghost use Rattle.fh_model.specs.declared.limits.TheConstants.{BLOCK_BYTES};
+    ghost use Rattle.fh_model.specs.Content.{IsDigestOf};
     ghost use Rattle.fh_model.specs.History.{state_of};
     ghost use Rattle.fh_world.specs.Causes.{CountsOnce, Rose};
-    ghost use Rattle.sha2.specs.Sha256.{sha256};
     ghost use Rattle.host_seat.specs.Port.{Commits, OthersEnter, Leaves, KeepsPieces, PutsData, IsBlock, block_at, placed_at};
 
     /// Lets the command of an act enter with its data, or refuses it, at a point that begins with all that was seen.
@@ -62,7 +62,7 @@ pub trait Port: View {
     ) -> Result<Reply, CommitFault>
         requires spelled { HasSpelling (record { seat = Self.number self.old; at = at; act = act }) }
         requires few { length bytes.now ≤ BLOCK_BYTES }
-        requires digest { IfSome digest (λ known. known.bytes ≡ sha256 bytes.now) }
+        requires digest { IsDigestOf bytes.now digest }
         ensures point { IfOk result (λ reply. Commits Self.alone (Self.seen self.old) (Self.seen self.new) (record { seat = Self.number self.old; at = at; act = act }) bytes.now reply) }
         ensures settled { OnOk result (Leaves (Self.waits self.old) [] (Self.waits self.new)) }
         ensures fault { OnErr result (OthersEnter Self.alone (Self.seen self.old) (Self.seen self.new)) }

@@ -49,8 +49,3 @@ pub use limits::{
 pub use parts::is_content_target;
 pub use place::{Place, State};
 pub use reader::Reader;
-
-#[cfg(test)]
-mod table;
-#[cfg(test)]
-mod tests;

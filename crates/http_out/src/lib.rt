@@ -26,6 +26,3 @@ pub use constant::{
 };
 pub use replying::{BodyKind, download_head, is_reply_status, reply};
 pub use safe::header_safe;
-
-#[cfg(test)]
-mod tests;

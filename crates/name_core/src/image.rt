@@ -1,4 +1,4 @@
-ghost use Rattle.std.specs.Prelude.{◌≡◌, ◌≤◌, ◌^◌, ℕ, [], IfOk, IsTrue, Ok, Err, Some, IsErrOf, option_copied, length};
+ghost use Rattle.std.specs.Prelude.{◌≡◌, ◌≤◌, ◌^◌, ◌∷◌, ◌++◌, ℕ, [], IfOk, IsTrue, Ok, Err, Some, IsErrOf, option_copied, length};
 ghost use Rattle.fh_model.specs.declared.changes.Node.TheVariants.{File};
 ghost use Rattle.fh_model.specs.declared.files.FileMeta.{FileMeta};
 ghost use Rattle.fh_model.specs.Files.{has_its_size};
@@ -6,6 +6,7 @@ ghost use Rattle.fh_model.specs.KeptFiles.{IsKept};
 ghost use Rattle.fh_model.specs.Pieces.{end_in};
 ghost use Rattle.fh_model.specs.Rows.{rows_of, state_of_rows};
 ghost use Rattle.fh_model.specs.State.{opening, token_user, home_of, meta_of};
+ghost use Rattle.fh_model.specs.Step.{step};
 ghost use Rattle.fh_model.specs.Resolve.{resolve, found, malformed, not_found};
 ghost use Rattle.fh_model.specs.History.{Kept, state_of, next_of, reply_of};
 
@@ -119,23 +120,32 @@ impl Image {
     }
 
     /// The image after a command, and the reply. Where the command is refused and does not enter, it is the same.
-    #[tactic(auto, using(fh_model::proofs::Runs::state_after_more))]
     pub fn apply(&self, cmd: &Cmd) -> Result<(Image, Reply), NoMemory>
         ensures image { IfOk result (λ done. done.0 ≡ next_of self.now cmd.now) }
         ensures reply { IfOk result (λ done. done.1 ≡ reply_of self.now cmd.now) }
     {
         let Done { next, reply } = self.machine.step(cmd)?;
-        let Some(machine) = next else {
-            return Ok((self.copy()?, reply));
+        let image = match next {
+            Some(machine) => self.behind(cmd, machine)?,
+            None => self.copy()?,
         };
+        Ok((image, reply))
+    }
+
+    /// The image with one command more, which leaves this machine.
+    #[tactic(auto, using(fh_model::proofs::Runs::state_after_more))]
+    fn behind(&self, cmd: &Cmd, machine: Machine) -> Result<Image, NoMemory>
+        requires { machine ≡ (step (state_of self.now) cmd.now).state }
+        ensures start { IfOk result (λ image. image.start ≡ self.now.start) }
+        ensures history { IfOk result (λ image. image.history ≡ self.now.history ++ cmd.now ∷ []) }
+    {
         let alloc = machine.alloc();
         let history = self.history.and(Shared::new(alloc, cmd.copy()?)?)?;
-        let image = Image {
+        Ok(Image {
             start: self.start.copy()?,
             machine: Shared::new(alloc, machine)?,
             history,
-        };
-        Ok((image, reply))
+        })
     }
 
     /// The reply that a command would be given.

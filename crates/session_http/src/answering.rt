@@ -1,13 +1,13 @@
 //! Answers a request that was read whole.
 ghost use Rattle.std.specs.Prelude.{◌≡◌, ◌≤◌, ◌+◌, [], length, List, ℕ, None, true, IfOk, IfSome, OnErr, IsErrOf, option_map};
 ghost use Rattle.fh_world.specs.Causes.{Rose};
+ghost use Rattle.fh_model.specs.Content.{IsDigestOf};
 ghost use Rattle.fh_model.specs.declared.limits.TheConstants.{BLOCK_BYTES};
 ghost use Rattle.api_types.specs.Routes.{has_content};
 ghost use Rattle.host_seat.specs.Port.{Leaves, OthersEnter};
 ghost use Rattle.session_rules.specs.Decisions.{argued, decided, enters, loads, looks};
 ghost use Rattle.session_rules.specs.Judged.{IsBody};
 ghost use Rattle.session_http.specs.Bodies.{Holds};
-ghost use Rattle.sha2.specs.Sha256.{sha256};
 ghost use Rattle.session_http.specs.Points.{Acts, Answers, Calls, Misses, called_as, called_if, IsStuck};
 
 use crate::bodies::Body;
@@ -17,8 +17,8 @@ use fh_model::{Act, Bytes32, Cmd, LAST_SECOND, NoMemory, Text};
 use host_seat::{CommitFault, Port};
 use http_in::Head;
 use session_rules::{
-    Caller, HeadFault, Load, Wish, act_answer, answer_reply, call_of, complaint_reply, data_of,
-    fault_reply, form_of, load_head, load_of, look_answer, user_of, wish_of,
+    Caller, HeadFault, Load, Wish, act_answer, answer_reply, call_of, complaint_reply, fault_reply,
+    form_of, load_head, load_of, look_answer, user_of, wish_of,
 };
 use std::alloc::Global;
 
@@ -135,7 +135,7 @@ fn enter<P: Port>(
 ) -> Result<Vec<u8>, CommitFault>
     requires second { at ≤ LAST_SECOND }
     requires few { length bytes.now ≤ BLOCK_BYTES }
-    requires digest { IfSome digest (λ known. known.bytes ≡ sha256 bytes.now) }
+    requires digest { IsDigestOf bytes.now digest }
     ensures ok { IfOk result (λ text. Acts P.alone (P.number port.old) at (P.seen port.old) (P.seen port.new) (P.blocks port.old) (P.blocks port.new) (enters act bytes.now) close text.items) }
     ensures memory { IsErrOf result CommitFault.NoMemory → Misses P.alone (P.number port.old) at (P.seen port.old) (P.seen port.new) (P.blocks port.old) (P.blocks port.new) (enters act bytes.now) }
     ensures disk { IsErrOf result CommitFault.Disk → IsStuck P.alone (P.number port.old) at (P.seen port.old) (P.seen port.new) (P.blocks port.old) (P.blocks port.new) (P.waits port.old) (P.waits port.new) (enters act bytes.now) × Rose (P.faults port.old) (P.faults port.new) }
@@ -197,7 +197,7 @@ fn carry_out<P: Port>(
             let Some(body) = body else {
                 return Err(CommitFault::NoMemory);
             };
-            let data = data_of(&act, body);
+            let data = act.data_in(body);
             let text = enter(alloc, port, at, act, data, digest, close)?;
             Ok(Answered::Text(text))
         }

@@ -1,9 +1,9 @@
 -- What the calls of this crate answer, by the definitions.
-use Rattle.std.specs.Prelude.{◌≡◌, ◌<◌, ℕ, List, length, Option, None, Some, IfSome}
+use Rattle.std.specs.Prelude.{◌≡◌, ◌<◌, ℕ, List, length, Option, None, Some}
 use Rattle.fh_model.specs.declared.limits.TheConstants.{BLOCK_BYTES}
+use Rattle.fh_model.specs.Content.{IsDigestOf}
 use Rattle.fh_model.specs.Pieces.{data_of}
 use Rattle.fh_model.specs.State.{State, token_user}
-use Rattle.sha2.specs.Sha256.{sha256}
 use Rattle.session_rules.specs.declared.asking.Asked.{Asked}
 use Rattle.session_rules.specs.declared.asking.Asked.TheVariants as asked
 use Rattle.session_rules.specs.declared.deciding.Caller.{Caller}
@@ -49,7 +49,7 @@ IsDecision wish content it = it ≡ decision_of wish content
 
 -- a digest that was taken is that of the act's data, which come from these bytes
 abbrev pub IsDigested : Wish → List ℕ → Type 0
-IsDigested (wish.Enter act digest) bytes = IfSome digest (λ known. known.bytes ≡ sha256 (data_of act bytes))
+IsDigested (wish.Enter act digest) bytes = IsDigestOf (data_of act bytes) digest
 IsDigested (wish.Refused complaint) bytes = Unit {0}
 IsDigested (wish.Answered answer) bytes = Unit {0}
 IsDigested (wish.Look user path) bytes = Unit {0}

@@ -5,7 +5,7 @@
 //! here are the pure parts of that: [`call_of`] and [`user_of`] decide by the head, [`wish_of`] by the argument and the
 //! content, and the others write replies. Nothing here reads or writes a connection, or lets a command enter.
 //!
-//! An upload's data are the content of its request ([`data_of`]). A download is told by the look that names the file's
+//! An upload's data are the content of its request (`Act::data_in`). A download is told by the look that names the file's
 //! version ([`load_of`]): its head is written here ([`load_head`]), and the bytes behind it are those of the version's
 //! pieces in the block file as the requests before made it.
 #![tactic(auto)]
@@ -24,4 +24,4 @@ pub use replying::{
     answer_reply, bad_request_reply, body_too_large_reply, complaint_reply, fault_reply,
     head_too_large_reply, interim,
 };
-pub use wishing::{Wish, data_of, wish_of};
+pub use wishing::{Wish, wish_of};

@@ -2,10 +2,9 @@
 ghost use Rattle.std.specs.Prelude.{◌≡◌, ◌≤◌, List, ℕ, length, IfOk, IfSome, None, true, option_map};
 ghost use Rattle.api_types.specs.Routes.{has_content};
 ghost use Rattle.fh_model.specs.declared.limits.TheConstants.{BLOCK_BYTES};
-ghost use Rattle.fh_model.specs.Pieces.{data_of};
+ghost use Rattle.fh_model.specs.Content.{IsDigestOf};
 ghost use Rattle.session_rules.specs.Decisions.{argued, argued_by, asked_for, is_announced, uploads};
 ghost use Rattle.session_rules.specs.Judged.{IsBody, IsDecision, IsDigested};
-ghost use Rattle.sha2.specs.Sha256.{sha256};
 
 use crate::asking::{Asked, asked_of};
 use crate::replying::{mismatch_answer, too_large_answer};
@@ -23,7 +22,7 @@ pub enum Wish {
     /// It is refused for its content, with this answer.
     Answered(Answer),
 
-    /// A command is to enter. Its data are those that `data_of` gives, with their digest where it was taken.
+    /// A command is to enter. Its data are those that `Act::data_in` gives, with their digest where it was taken.
     Enter { act: Act, digest: Option<Bytes32> },
 
     /// A path is to be looked up for a user.
@@ -33,21 +32,11 @@ pub enum Wish {
     Load { user: u64, path: Text },
 }
 
-/// The bytes of a request's body that are an act's data: all of an upload's, and none of another's.
-pub fn data_of<'a>(act: &Act, body: &'a [u8]) -> &'a [u8]
-    ensures { result.now ≡ data_of act.now body.now }
-{
-    match act {
-        Act::MakeFolder { .. } => &[],
-        Act::Upload { .. } => body,
-    }
-}
-
 /// Whether a content of at most a block is the one that was announced, if one was, and its digest where it was taken.
 fn is_announced(hash: Option<Bytes32>, content: &[u8]) -> (bool, Option<Bytes32>)
     requires { length content.now ≤ BLOCK_BYTES }
     ensures announced { result.0 ≡ is_announced hash content.now }
-    ensures digest { IfSome result.1 (λ digest. digest.bytes ≡ sha256 content.now) }
+    ensures digest { IsDigestOf content.now result.1 }
 {
     match hash {
         Some(hash) => {

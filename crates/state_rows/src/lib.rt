@@ -23,6 +23,3 @@ mod writing;
 pub use reading::decode_row;
 pub use spelling::has_spelling;
 pub use writing::encode_row;
-
-#[cfg(test)]
-mod tests;

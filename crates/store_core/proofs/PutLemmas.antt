@@ -13,8 +13,7 @@ use Rattle.fh_world.specs.declared.FileNo.{FileNo}
 use Rattle.fh_world.specs.declared.FileNo.TheVariants as file
 use Rattle.fh_world.specs.declared.Disk as disk
 use Rattle.fh_world.specs.Disk.{Files, Writes, LeavesOnly, LeavesTorn}
-use Rattle.fh_world.proofs.Moments.{started, weaker}
-use Rattle.fh_world.proofs.TornLemmas.{torn_same}
+use Rattle.fh_world.proofs.Moments.{weaker}
 use Rattle.gate_journal.specs.Journal.{slot_of, Keeps}
 use Rattle.gate_journal.specs.declared.Journal.{Journal}
 use Rattle.gate_journal.proofs.StateLemmas.{settled_left, settled_beside}
@@ -38,13 +37,6 @@ take-both n m xs =
 -- ---- the call that puts
 
 module _ {D : Type 0} (d : disk.Ghosts D) (at : D) where
-  -- where there is nothing to put
-  pub none_run : ((here : D) (files : Files) → d.left_since here (d.moment here) files → (g : FileNo) → d.may_leave here g (files g)) → (end n : ℕ)
-      → LeavesOnly d.moment d.left_since at at (LeavesTorn file.Blocks end n (d.may_leave at))
-  none_run only_now end n = started d.moment d.left_since at (LeavesTorn file.Blocks end n (d.may_leave at)) (λ files left.
-      let may = only_now at files left in
-      record { torn = (files file.Blocks, may file.Blocks, torn_same end n (files file.Blocks)); others = λ g other. may g })
-
   -- where it was put
   module _ (new : D) (end : ℕ) (bytes : List ℕ) (piece : Piece) (is : IsPieceOf piece end bytes) (stored : Stored d new piece bytes) where
     pub put_bytes : {n : ℕ} → Writes file.Blocks end n (d.seen at) (d.seen new) (d.may_leave at) (d.may_leave new)

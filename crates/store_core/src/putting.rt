@@ -2,6 +2,7 @@
 ghost use Rattle.std.specs.Prelude.{◌≡◌, ◌++◌, ◌+◌, ◌<◌, ◌^◌, ◌≤◌, ℕ, List, length, max, take, IsTrue, IfErr, IfSome, OnOk};
 ghost use Rattle.std.specs.Option.{option_to_list};
 ghost use Rattle.cmd_codec.specs.Commands.{HasSpelling, IsBlock};
+ghost use Rattle.fh_model.specs.Content.{IsDigestOf};
 ghost use Rattle.fh_model.specs.Pieces.{data_of, named_in, piece_of, with_piece};
 ghost use Rattle.fh_world.specs.Causes.{HasCause, CountsOnce};
 ghost use Rattle.fh_world.specs.Disk.{LeavesOnly, LeavesTorn, Writes};
@@ -10,25 +11,14 @@ ghost use Rattle.sha2.specs.Sha256.{sha256};
 ghost use Rattle.store_core.specs.Store.{HoldsBlocks};
 
 use crate::CommitFault;
-use block_file::{PutFault, ROOM_BYTES, put_hashed};
+use block_file::{PutFault, put_hashed};
 use fh_model::{Act, BLOCK_BYTES, Bytes32, Cmd, Piece};
-use fh_world::Disk;
+use fh_world::{Disk, ROOM_BYTES};
 use sha2::{Digest, Sha256};
-
-/// What of the bytes is the act's data.
-pub(crate) fn data_of<'a>(act: &Act, bytes: &'a [u8]) -> &'a [u8]
-    ensures bytes { result.now ≡ data_of act.now bytes.now }
-    ensures few { length bytes.now ≤ BLOCK_BYTES → length result.now ≤ BLOCK_BYTES }
-{
-    match act {
-        Act::MakeFolder { .. } => &[],
-        Act::Upload { .. } => bytes,
-    }
-}
 
 /// The digest of the bytes, which is taken where it isn't known.
 fn digest_of(bytes: &[u8], known: Option<Bytes32>) -> Bytes32
-    requires { IfSome known (λ digest. digest.bytes ≡ sha256 bytes.now) }
+    requires { IsDigestOf bytes.now known }
     ensures { result.bytes ≡ sha256 bytes.now }
 {
     match known {
@@ -42,7 +32,7 @@ fn digest_of(bytes: &[u8], known: Option<Bytes32>) -> Bytes32
 /// The piece of the bytes at a place, none where there are none.
 pub(crate) fn piece_of(place: u64, bytes: &[u8], digest: Option<Bytes32>) -> Option<Piece>
     requires few { length bytes.now ≤ BLOCK_BYTES }
-    requires digest { IfSome digest (λ known. known.bytes ≡ sha256 bytes.now) }
+    requires digest { IsDigestOf bytes.now digest }
     ensures piece { result ≡ piece_of place bytes.now }
     ensures block { IfSome result IsBlock }
 {
@@ -64,7 +54,7 @@ pub(crate) fn placed(
     digest: Option<Bytes32>,
 ) -> (Cmd, Option<Piece>)
     requires few { length bytes.now ≤ BLOCK_BYTES }
-    requires digest { IfSome digest (λ known. known.bytes ≡ sha256 bytes.now) }
+    requires digest { IsDigestOf bytes.now digest }
     ensures cmd { result.0 ≡ record cmd { act = with_piece (piece_of place bytes.now) cmd.act } }
     ensures piece { result.1 ≡ piece_of place (data_of cmd.act bytes.now) }
     ensures named { named_in result.0.act ≡ option_to_list result.1 }

@@ -1,22 +1,22 @@
 //! The store.
-ghost use Rattle.std.specs.Prelude.{◌≡◌, ◌≢◌, ◌⊎◌, ◌≤◌, ℕ, [], true, false, is_some, length, List, Option, None, Some, IsTrue, IfOk, IfSome, IfErr, OnOk, OnErr, IsErrOf};
+ghost use Rattle.std.specs.Prelude.{◌≡◌, ◌≢◌, ◌⊎◌, ◌≤◌, ℕ, [], true, false, is_some, length, List, Option, None, Some, IsTrue, IfOk, IfErr, OnOk, OnErr, IsErrOf};
 ghost use Rattle.std.specs.Option.{option_to_list};
 ghost use Rattle.byte_formats.specs.Spelling.{Spells};
 ghost use Rattle.cmd_codec.specs.Commands.{HasSpelling, command};
+ghost use Rattle.fh_model.specs.Content.{IsDigestOf};
 ghost use Rattle.fh_model.specs.History.{state_of, next_of, reply_of};
 ghost use Rattle.fh_model.specs.Pieces.{AreHeld, SamePieces, blocks_with, block_in, data_of, end_in, named_in, piece_of};
 ghost use Rattle.fh_model.specs.Step.{step};
 ghost use Rattle.fh_world.specs.Causes.{CountsOnce, Rose};
 ghost use Rattle.fh_world.specs.declared.FileNo.TheVariants.{Blocks};
 ghost use Rattle.fh_world.specs.Disk.{LeavesOnly, Rests};
-ghost use Rattle.sha2.specs.Sha256.{sha256};
 ghost use Rattle.store_core.specs.Commit.{BeginsWith, StandsAround, IsAsBefore, IsFinished, IsFaulted, IsFetched, placed_in};
 ghost use Rattle.store_core.specs.Files.{contents, StandsOrNew, KeepsMeaning};
 ghost use Rattle.store_core.specs.Open.{disk_left, IsSaid, LeavesMeaning};
 ghost use Rattle.store_core.specs.Store.{IsKept, StandsFor, finished};
 
 use crate::opening::open_on;
-use crate::putting::{data_of, placed, put};
+use crate::putting::{placed, put};
 use crate::{CommitFault, FetchFault, StoreFault};
 use block_file::get;
 use cmd_codec::encode;
@@ -98,7 +98,7 @@ impl<D: Disk> Store<D> {
         requires idle { self.old.waiting ≡ None }
         requires spelled { HasSpelling cmd }
         requires few { length bytes.now ≤ BLOCK_BYTES }
-        requires digest { IfSome digest (λ known. known.bytes ≡ sha256 bytes.now) }
+        requires digest { IsDigestOf bytes.now digest }
         ensures reply { IfOk result (λ reply. reply ≡ reply_of (finished self.old) (placed_in self.old bytes.now cmd)) }
         ensures image { OnOk result ((self.new.image ≡ next_of (finished self.old) (placed_in self.old bytes.now cmd)) × (self.new.waiting ≡ None)) }
         ensures fault { OnErr result (IsFaulted self.old (placed_in self.old bytes.now cmd) self.new) }
@@ -121,7 +121,7 @@ impl<D: Disk> Store<D> {
         ensures once { CountsOnce (D.faults self.old.disk) (D.faults self.new.disk) result }
     {
         let place = self.next_place();
-        let content = data_of(&cmd.act, bytes);
+        let content = cmd.act.data_in(bytes);
         self.let_in(placed(cmd, place, bytes, digest), content)
     }
 

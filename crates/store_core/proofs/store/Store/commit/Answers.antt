@@ -18,7 +18,7 @@ let_in-requires-clause-piece g c =
     let cmd = placed_in s c.args.bytes.now c.args.cmd in
     let is : c.placed.result.0 ≡ cmd =
     c.placed.ensures.cmd ∙ ap (λ n. record c.args.cmd { act = with_piece (piece_of n c.args.bytes.now) c.args.cmd.act }) (end ∙ ap end_in all) in
-    let content : c.data_of-content.result.now ≡ data_of c.args.cmd.act c.args.bytes.now = c.data_of-content.ensures.bytes in
+    let content : c.data_in-content.result.now ≡ data_of c.args.cmd.act c.args.bytes.now = c.data_in-content.ensures.data in
     c.placed.ensures.piece ∙ ap (λ n. piece_of n (data_of c.args.cmd.act c.args.bytes.now)) end ∙ ap (λ (b : List ℕ). piece_of (end_in (state_of s.image)) b) (sym content)
 
 pub returns-clause-reply : goal.returns-clause-reply
@@ -79,7 +79,7 @@ returns-clause-stored g c =
     let cmd = placed_in s c.args.bytes.now c.args.cmd in
     let is : c.placed.result.0 ≡ cmd =
     c.placed.ensures.cmd ∙ ap (λ n. record c.args.cmd { act = with_piece (piece_of n c.args.bytes.now) c.args.cmd.act }) (end ∙ ap end_in all) in
-    let content : c.data_of-content.result.now ≡ data_of c.args.cmd.act c.args.bytes.now = c.data_of-content.ensures.bytes in
+    let content : c.data_in-content.result.now ≡ data_of c.args.cmd.act c.args.bytes.now = c.data_in-content.ensures.data in
     subst (λ (k : Cmd). OnOk c.let_in.result ((step (state_of s.image) k).enters ≡ true → IsTrue g.D.Disk.tells → BeginsWith (blocks_with (state_of s.image) (data_of c.args.cmd.act c.args.bytes.now) (g.D.Disk.seen s.disk file.Blocks)) (g.D.Disk.seen c.let_in.new.self.disk file.Blocks))) is
     (subst (λ (b : List ℕ). OnOk c.let_in.result ((step (state_of s.image) c.placed.result.0).enters ≡ true → IsTrue g.D.Disk.tells → BeginsWith (blocks_with (state_of s.image) b (g.D.Disk.seen s.disk file.Blocks)) (g.D.Disk.seen c.let_in.new.self.disk file.Blocks))) content c.let_in.ensures.stored)
 
@@ -91,7 +91,7 @@ returns-clause-left g c =
     let cmd = placed_in s c.args.bytes.now c.args.cmd in
     let is : c.placed.result.0 ≡ cmd =
     c.placed.ensures.cmd ∙ ap (λ n. record c.args.cmd { act = with_piece (piece_of n c.args.bytes.now) c.args.cmd.act }) (end ∙ ap end_in all) in
-    let content : c.data_of-content.result.now ≡ data_of c.args.cmd.act c.args.bytes.now = c.data_of-content.ensures.bytes in
+    let content : c.data_in-content.result.now ≡ data_of c.args.cmd.act c.args.bytes.now = c.data_in-content.ensures.data in
     subst (λ (b : List ℕ). OnErr c.let_in.result (is_some c.let_in.new.self.waiting ≡ true → IsTrue g.D.Disk.tells → BeginsWith (blocks_with (state_of s.image) b (g.D.Disk.seen s.disk file.Blocks)) (g.D.Disk.seen c.let_in.new.self.disk file.Blocks))) content c.let_in.ensures.left
 
 pub returns-clause-held : goal.returns-clause-held
