@@ -1,7 +1,6 @@
 -- Modes worked out, of which a route may serve fewer.
-use Rattle.std.proofs.Common.{◌≡◌, Option, None, Some, codes, refl}
-use Rattle.serde_json.specs.Data.{Data, Members, null, number, string, object, unsigned, no_members, member}
-use Rattle.fh_model.specs.declared.commands.Mode.{Mode}
+use Rattle.std.proofs.Common.{◌≡◌, None, Some, codes, refl}
+use Rattle.serde_json.specs.Data.{null, number, string, object, unsigned, no_members, member}
 use Rattle.fh_model.specs.declared.commands.Mode.TheVariants as mode
 use Rattle.api_json.specs.Values.{mode_in, told_mode}
 

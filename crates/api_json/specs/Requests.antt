@@ -1,6 +1,6 @@
 -- The request of a route, from the values of its fields. Each value has the kind of its field, so what is said here of a
 -- value of another kind never comes to pass.
-use Rattle.std.specs.Prelude.{ℕ, ◌&&◌, Bool, true, false, List, [], ◌∷◌, Option, None, Some}
+use Rattle.std.specs.Prelude.{ℕ, ◌&&◌, Bool, true, false, List, [], ◌∷◌, Option, None}
 use Rattle.fh_model.specs.declared.commands.Commit.{Commit}
 use Rattle.fh_model.specs.declared.commands.Mode.{Mode}
 use Rattle.fh_model.specs.declared.commands.Mode.TheVariants as mode

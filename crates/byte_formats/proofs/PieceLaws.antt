@@ -1,11 +1,10 @@
 -- The laws of pieces.
-use Rattle.std.proofs.Common.{◌≡◌, ℕ, zero, suc, ◌+◌, ◌*◌, ◌<◌, ◌≤◌, ◌^◌, ◌&&◌, Bool, true, false, cond, eqb, leb, if◌then◌else◌, List, [], ◌∷◌, get_or, refl, sym, ap, ◌∙◌, inl, inr, arith}
-use Rattle.std.proofs.lemmas.Bool.{and_parts, and_from, cases_lt, le-leb, leb-true, eqb-true, eqb-false, eq-eqb}
+use Rattle.std.proofs.Common.{◌≡◌, ℕ, zero, suc, ◌+◌, ◌*◌, ◌<◌, ◌≤◌, ◌&&◌, Bool, true, false, eqb, if◌then◌else◌, List, [], ◌∷◌, get_or, refl, ap, arith}
+use Rattle.std.proofs.lemmas.Bool.{and_parts, and_from, le-leb, leb-true, eqb-true}
 use Rattle.std.specs.Int.{w32, from_be_bytes, to_be_bytes}
 use Rattle.fh_model.specs.declared.limits.TheConstants.{BLOCK_BYTES}
-use Rattle.fh_model.specs.declared.pieces.Piece.{Piece}
 use Rattle.byte_formats.specs.Fields.{IsBytes, n64, octets}
-use Rattle.byte_formats.specs.Formats.{Format, both, byte_where, follows, made}
+use Rattle.byte_formats.specs.Formats.{both, follows}
 use Rattle.byte_formats.specs.Pieces.{byte_in, bytes_of_len, digest_format, digest_of, last_byte, last_bytes, least_behind, len_bytes, len_of, most_behind, piece_fields, piece_format, piece_len, piece_of}
 use Rattle.byte_formats.specs.Texts.{between}
 use Rattle.byte_formats.proofs.Laws.{Lawful, both_lawful, byte_lawful, follows_lawful, made_lawful}

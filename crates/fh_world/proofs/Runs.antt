@@ -1,5 +1,5 @@
 -- What a crash leaves while a range is written and synced.
-use Rattle.std.proofs.Common.{◌≢◌, ℕ, ◌≤◌, List, ◌∙◌}
+use Rattle.std.proofs.Common.{ℕ, ◌≤◌, List, ◌∙◌}
 use Rattle.fh_world.specs.declared.disk.FileNo.{FileNo}
 use Rattle.fh_world.specs.Disk.{Files, Writes, Rests, Elapses, LeavesOnly, LeavesTorn}
 use Rattle.fh_world.proofs.Moments.{started, goes_on, joined, weaker}

@@ -41,11 +41,16 @@ fn refusal(
     }))
 }
 
+/// What `serde_json` writes of what it reads in these bytes.
+fn written_again(alloc: Global, body: &[u8]) -> Result<String, Fail> {
+    let value = Value::from_slice(alloc, body).ok().ok_or("no JSON")?;
+    Ok(value.to_string(alloc)?)
+}
+
 /// What is written of an answer, if it is what `serde_json` writes again of what it reads there.
 fn written(alloc: Global, answer: &Answer) -> Result<String, Fail> {
     let body = write(alloc, answer).ok().ok_or("out of memory")?;
-    let value = Value::from_slice(alloc, &body).ok().ok_or("no JSON")?;
-    let again = value.to_string(alloc)?;
+    let again = written_again(alloc, &body)?;
     if again.as_bytes() != body.as_slice() {
         return Err("not as serde_json writes it".into());
     }
@@ -133,11 +138,20 @@ fn expect_file(alloc: Global, answer: &Answer, front: &str) -> Result<(), Fail> 
     expect(alloc, answer, want.as_str())
 }
 
+fn expect_plain_file(alloc: Global) -> Result<(), Fail> {
+    let plain = Answer::Plain(file(alloc)?);
+    expect_file(alloc, &plain, "{")
+}
+
+fn expect_tagged_file(alloc: Global) -> Result<(), Fail> {
+    let tagged = Answer::Tagged(file(alloc)?);
+    expect_file(alloc, &tagged, "{\".tag\":\"file\",")
+}
+
 #[test]
 fn a_file_is_told_with_its_tag_or_without(rt: HostRuntime) -> Result<(), Fail> {
-    let alloc = rt.alloc();
-    expect_file(alloc, &Answer::Plain(file(alloc)?), "{")?;
-    expect_file(alloc, &Answer::Tagged(file(alloc)?), "{\".tag\":\"file\",")
+    expect_plain_file(rt.alloc())?;
+    expect_tagged_file(rt.alloc())
 }
 
 #[test]

@@ -28,7 +28,7 @@ fn outcome_of(alloc: Global, route: Route, bytes: &[u8]) -> Told {
     }
 }
 
-const MAKES: [(&str, Told); 27] = [
+static MAKES: [(&str, Told); 27] = [
     ("{\"path\":\"/a\"}", Told::Made),
     (" {\"\\u0070ath\" :\n\"/\\u0061\"}\t", Told::Made),
     ("{\"path\":\"\"}", Told::Made),
@@ -73,7 +73,7 @@ const MAKES: [(&str, Told); 27] = [
     ("{\"path\":\"/a\",\"x\":1e999}", Told::BadJson),
 ];
 
-const FINDS: [(&str, Told); 12] = [
+static FINDS: [(&str, Told); 12] = [
     ("{\"path\":\"/a\"}", Told::Found),
     ("{\"path\":\"/\"}", Told::Found),
     (
@@ -100,7 +100,7 @@ const FINDS: [(&str, Told); 12] = [
     ("{\"path\":\"NS:1\"}", Told::Found),
 ];
 
-const UPLOADS: [(&str, Told); 36] = [
+static UPLOADS: [(&str, Told); 36] = [
     ("{\"path\":\"/a.txt\"}", Told::Uploaded),
     (
         "{\"path\":\"/a\",\"mode\":null,\"autorename\":null,\"client_modified\":null,\"strict_conflict\":null,\"content_hash\":null}",
@@ -220,7 +220,7 @@ const UPLOADS: [(&str, Told); 36] = [
     ("{\"path\":5}", Told::Bad(FieldName::Path)),
 ];
 
-const DOWNLOADS: [(&str, Told); 5] = [
+static DOWNLOADS: [(&str, Told); 5] = [
     ("{\"path\":\"rev:0000000000000001\"}", Told::Loaded),
     ("{\"path\":\"\"}", Told::Loaded),
     ("{\"path\":\"ns:1\",\"rev\":null}", Told::Loaded),

@@ -52,7 +52,7 @@ fn block_digests(alloc: Global, bytes: &[u8]) -> Result<Vec<Bytes32>, AllocError
 }
 
 /// Messages, and their published SHA-256 digests.
-const VECTORS: [(&[u8], &str); 3] = [
+static VECTORS: [(&[u8], &str); 3] = [
     (
         b"abc",
         "ba7816bf8f01cfea414140de5dae2223b00361a396177a9cb410ff61f20015ad",
@@ -106,7 +106,7 @@ fn no_byte_has_no_block(rt: HostRuntime) -> Result<(), Fail> {
 }
 
 /// A length, how many blocks it has, and the content hashes of so many zeros and of so many bytes that are counted.
-const SIZES: [(usize, usize, &str, &str); 6] = [
+static SIZES: [(usize, usize, &str, &str); 6] = [
     (0, 0, NOTHING, NOTHING),
     (
         1,

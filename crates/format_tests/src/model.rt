@@ -9,11 +9,11 @@ fn text(alloc: Global, chars: &str) -> Result<Text, NoMemory> {
     Ok(Text::new(String::from_str(alloc, chars)?))
 }
 
-/// Copies a version of a file with one block, and the session that holds it.
-fn copy_file(alloc: Global, piece: Piece) -> Result<(), NoMemory> {
+/// A version of a file with one block.
+fn file_of(alloc: Global, piece: Piece) -> Result<FileMeta, NoMemory> {
     let mut pieces = Items::empty(alloc);
     pieces.push(piece)?;
-    let file = FileMeta {
+    Ok(FileMeta {
         id: 1,
         rev: 1,
         size: piece.len as u64,
@@ -21,7 +21,11 @@ fn copy_file(alloc: Global, piece: Piece) -> Result<(), NoMemory> {
         client: 2,
         server: 3,
         pieces,
-    };
+    })
+}
+
+/// Copies a version of a file, by itself and as a node.
+fn copy_file(alloc: Global, file: FileMeta) -> Result<(), NoMemory> {
     let kept = Revision {
         ns: 1,
         names: Items::empty(alloc),
@@ -29,6 +33,11 @@ fn copy_file(alloc: Global, piece: Piece) -> Result<(), NoMemory> {
     }
     .copy()?;
     let _node = Node::File(kept.file).copy()?;
+    Ok(())
+}
+
+/// Copies the session that holds one block.
+fn copy_session(alloc: Global, piece: Piece) -> Result<(), NoMemory> {
     let mut held = Items::empty(alloc);
     held.push(BlockPiece { block: 0, piece }.copy()?)?;
     let _session = Session {
@@ -93,9 +102,15 @@ fn docs(alloc: Global) -> Result<Items<Name>, NoMemory> {
     Ok(names)
 }
 
+/// Copies a key.
+fn copy_key(alloc: Global, names: &[Name]) -> Result<(), NoMemory> {
+    let _key = Key::of(alloc, names)?.copy()?;
+    Ok(())
+}
+
 /// Copies a key, and a mount at its names.
 fn copy_names(alloc: Global, names: Items<Name>) -> Result<(), NoMemory> {
-    let _key = Key::of(alloc, names.as_slice())?.copy()?;
+    copy_key(alloc, names.as_slice())?;
     let node = Node::Mount { id: 1, ns: 2 };
     let _item = Item { names, node }.copy()?;
     Ok(())
@@ -139,7 +154,8 @@ fn a_block() -> Result<Piece, NoMemory> {
 fn copy_each(alloc: Global) -> Result<(), NoMemory> {
     let piece = a_block()?;
     copy_names(alloc, docs(alloc)?)?;
-    copy_file(alloc, piece)?;
+    copy_file(alloc, file_of(alloc, piece)?)?;
+    copy_session(alloc, piece)?;
     copy_upload(alloc, piece)?;
     copy_space(alloc, docs(alloc)?)?;
     copy_user(alloc)?;

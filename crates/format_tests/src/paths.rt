@@ -1,5 +1,5 @@
-use fh_model::{Key, Name, PathArg, Text};
-use fold_path::{PathFault, fold, is_lower_hex, parse, revision};
+use fh_model::{Key, Name, Names, PathArg, Text};
+use fold_path::{PathFault, fold, parse};
 use std::cmp::Ordering;
 use std::test::*;
 
@@ -57,19 +57,24 @@ fn first_untold(rt: HostRuntime, cases: &[Case]) -> Result<Option<&'static str>,
     Ok(None)
 }
 
-fn key(rt: HostRuntime, path: &str) -> Result<Key, Fail> {
-    let path = text(rt, path)?;
-    let Ok(PathArg::Names(names)) = parse(rt.alloc(), &path) else {
-        return Err("no names".into());
-    };
-    Ok(
-        Key::of(rt.alloc(), names.as_slice())
-            .ok()
-            .ok_or("out of memory")?,
-    )
+fn key_of(rt: HostRuntime, names: &[Name]) -> Result<Key, Fail> {
+    Ok(Key::of(rt.alloc(), names).ok().ok_or("out of memory")?)
 }
 
-const LIMITS: [Limit; 16] = [
+fn names_of(rt: HostRuntime, path: &str) -> Result<Names, Fail> {
+    let path = text(rt, path)?;
+    match parse(rt.alloc(), &path) {
+        Ok(PathArg::Names(names)) => Ok(names),
+        _ => Err("no names".into()),
+    }
+}
+
+fn key(rt: HostRuntime, path: &str) -> Result<Key, Fail> {
+    let names = names_of(rt, path)?;
+    key_of(rt, names.as_slice())
+}
+
+static LIMITS: [Limit; 16] = [
     ("/", "a", 255, "", Some(1)),
     ("/", "a", 256, "", None),
     ("/", "é", 127, "a", Some(1)),
@@ -112,7 +117,7 @@ fn each_limit_is_kept_and_not_passed(rt: HostRuntime) -> Result<(), Fail> {
     Ok(())
 }
 
-const FORMS: [Case; 20] = [
+static FORMS: [Case; 20] = [
     ("", Some(("names", 0, 0))),
     ("/a", Some(("names", 0, 1))),
     ("/Caf\u{e9} (2).txt/\u{1f600}", Some(("names", 0, 2))),
@@ -141,7 +146,7 @@ fn a_text_has_one_form_or_is_malformed(rt: HostRuntime) -> Result<(), Fail> {
     Ok(())
 }
 
-const NUMBERS: [Case; 17] = [
+static NUMBERS: [Case; 17] = [
     ("id:", Some(("id", 0, 0))),
     ("id:0000000000000001", Some(("id", 1, 0))),
     ("id:ffffffffffffffff", Some(("id", u64::MAX, 0))),
@@ -167,7 +172,7 @@ fn items_and_revisions_are_told_by_their_digits(rt: HostRuntime) -> Result<(), F
     Ok(())
 }
 
-const NAMESPACES: [Case; 16] = [
+static NAMESPACES: [Case; 16] = [
     ("ns:", None),
     ("ns:/a", None),
     ("ns:1", Some(("ns", 1, 0))),
@@ -199,7 +204,7 @@ fn namespaces_have_1_to_18_digits(rt: HostRuntime) -> Result<(), Fail> {
 }
 
 /// Names and their folded texts.
-const FOLDED: [(&str, &str); 12] = [
+static FOLDED: [(&str, &str); 12] = [
     ("", ""),
     ("README.txt", "readme.txt"),
     ("straße", "strasse"),
@@ -236,23 +241,28 @@ fn names_are_folded_in_full(rt: HostRuntime) -> Result<(), Fail> {
     Ok(())
 }
 
+/// Whether a name has these texts.
+fn is_named(name: &Name, shown: &str, folded: &str) -> bool {
+    name.shown.as_str() == shown && name.folded.as_str() == folded
+}
+
+/// Whether these are the two names of the path, as they were written and as they are folded.
+fn are_kept(names: &[Name]) -> bool {
+    let [street, file] = names else {
+        return false;
+    };
+    is_named(street, "Straße", "strasse") && is_named(file, "Übersicht.TXT", "übersicht.txt")
+}
+
 #[test]
 fn names_keep_the_case_in_which_they_were_written(rt: HostRuntime) -> Result<(), Fail> {
-    let path = text(rt, "/Straße/Übersicht.TXT")?;
-    let Ok(PathArg::Names(names)) = parse(rt.alloc(), &path) else {
-        return Err("no names".into());
-    };
-    let [street, file] = names.as_slice() else {
-        return Err("not two names".into());
-    };
-    let shown = street.shown.as_str() == "Straße" && file.shown.as_str() == "Übersicht.TXT";
-    let folded = street.folded.as_str() == "strasse" && file.folded.as_str() == "übersicht.txt";
-    assert!(rt; shown && folded);
+    let names = names_of(rt, "/Straße/Übersicht.TXT")?;
+    assert!(rt; are_kept(names.as_slice()));
     Ok(())
 }
 
 /// Two paths and their order. In the order of the joined texts a blank and a dash would come before the slash.
-const ORDERED: [(&str, &str, Ordering); 11] = [
+static ORDERED: [(&str, &str, Ordering); 11] = [
     ("", "", Ordering::Equal),
     ("/straße", "/STRASSE", Ordering::Equal),
     ("/A/b", "/a/B", Ordering::Equal),
@@ -266,13 +276,20 @@ const ORDERED: [(&str, &str, Ordering); 11] = [
     ("/b", "/a/z", Ordering::Greater),
 ];
 
+/// The order of two paths.
+fn order(rt: HostRuntime, path: &str, other: &str) -> Result<Ordering, Fail> {
+    let left = key(rt, path)?;
+    let right = key(rt, other)?;
+    Ok(left.cmp(&right))
+}
+
 /// The first path that stands in another order, if there is one.
 fn first_misplaced(
     rt: HostRuntime,
     cases: &[(&'static str, &'static str, Ordering)],
 ) -> Result<Option<&'static str>, Fail> {
     for (path, other, want) in cases {
-        if key(rt, path)?.cmp(&key(rt, other)?) != *want {
+        if order(rt, path, other)? != *want {
             return Ok(Some(*path));
         }
     }
@@ -286,7 +303,7 @@ fn keys_are_in_order_name_by_name(rt: HostRuntime) -> Result<(), Fail> {
 }
 
 /// A path, another, and whether the first is under it.
-const UNDER: [(&str, &str, bool); 10] = [
+static UNDER: [(&str, &str, bool); 10] = [
     ("/a", "", true),
     ("/a/b/c", "/A", true),
     ("/a/b/c", "/a/B", true),
@@ -299,13 +316,20 @@ const UNDER: [(&str, &str, bool); 10] = [
     ("/a/b", "/b", false),
 ];
 
+/// Whether the first path is under the second.
+fn is_under(rt: HostRuntime, path: &str, base: &str) -> Result<bool, Fail> {
+    let upper = key(rt, base)?;
+    let lower = key(rt, path)?;
+    Ok(lower.is_under(&upper))
+}
+
 /// The first path of which it is told otherwise, if there is one.
 fn first_not_under(
     rt: HostRuntime,
     cases: &[(&'static str, &'static str, bool)],
 ) -> Result<Option<&'static str>, Fail> {
     for (path, base, want) in cases {
-        if key(rt, path)?.is_under(&key(rt, base)?) != *want {
+        if is_under(rt, path, base)? != *want {
             return Ok(Some(*path));
         }
     }

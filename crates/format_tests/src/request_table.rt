@@ -16,7 +16,7 @@ fn first_misread(alloc: Global, cases: &[Case]) -> Option<&'static [u8]> {
     None
 }
 
-const LENGTHS: [Case; 12] = [
+static LENGTHS: [Case; 12] = [
     (
         b"POST / HTTP/1.1\r\nContent-Length: 5\r\n\r\nhello",
         1,
@@ -97,7 +97,7 @@ fn lengths_are_one_number_of_1_to_18_digits(rt: HostRuntime) -> Result<(), Fail>
     Ok(())
 }
 
-const LENGTH_LINES: [Case; 13] = [
+static LENGTH_LINES: [Case; 13] = [
     (
         b"POST / HTTP/1.1\r\nContent-Length: 5\r\nContent-Length: 5\r\n\r\nhello",
         0,
@@ -184,7 +184,7 @@ fn a_length_stands_once_and_alone(rt: HostRuntime) -> Result<(), Fail> {
     Ok(())
 }
 
-const CODINGS: [Case; 11] = [
+static CODINGS: [Case; 11] = [
     (
         b"POST / HTTP/1.1\r\nTransfer-Encoding: ChunKED\r\n\r\n5\r\nhello\r\n0\r\n\r\n",
         1,
@@ -259,7 +259,7 @@ fn the_one_coding_is_chunked(rt: HostRuntime) -> Result<(), Fail> {
     Ok(())
 }
 
-const HEAD_LINES: [Case; 12] = [
+static HEAD_LINES: [Case; 12] = [
     (b"GET / HTTP/1.1\nHost: a\n\n", 1, Outcome::End, b""),
     (
         b"POST / HTTP/1.1\nContent-Length: 5\n\nhello",
@@ -320,7 +320,7 @@ fn lines_of_a_head_end_in_lf_and_never_fold(rt: HostRuntime) -> Result<(), Fail>
     Ok(())
 }
 
-const REQUEST_LINES: [Case; 12] = [
+static REQUEST_LINES: [Case; 12] = [
     (b"GET  / HTTP/1.1\r\n\r\n", 0, Outcome::Bad, b""),
     (b"GET / HTTP/1.2\r\n\r\n", 0, Outcome::Bad, b""),
     (b"GET / HTTP/2.0\r\n\r\n", 0, Outcome::Bad, b""),
@@ -341,7 +341,7 @@ fn a_request_line_has_three_words(rt: HostRuntime) -> Result<(), Fail> {
     Ok(())
 }
 
-const CUT_HEADS: [Case; 8] = [
+static CUT_HEADS: [Case; 8] = [
     (b"", 0, Outcome::End, b""),
     (b"\r\n", 0, Outcome::Cut, b""),
     (b"G", 0, Outcome::Cut, b""),
@@ -368,7 +368,7 @@ fn bytes_that_end_in_a_head_are_cut(rt: HostRuntime) -> Result<(), Fail> {
     Ok(())
 }
 
-const CHUNK_LINES: [Case; 14] = [
+static CHUNK_LINES: [Case; 14] = [
     (
         b"POST / HTTP/1.1\r\nTransfer-Encoding: chunked\r\n\r\n5;x=y\r\nhello\r\n0\r\n\r\n",
         1,
@@ -461,7 +461,7 @@ fn a_chunk_line_is_digits_and_perhaps_an_extension(rt: HostRuntime) -> Result<()
     Ok(())
 }
 
-const CHUNK_ENDS: [Case; 14] = [
+static CHUNK_ENDS: [Case; 14] = [
     (
         b"POST / HTTP/1.1\r\nTransfer-Encoding: chunked\r\n\r\n2\r\nhe\r\n3\r\nllo\r\n0\r\n\r\n",
         1,
@@ -554,7 +554,7 @@ fn chunks_end_in_cr_lf_and_keep_within_the_limit(rt: HostRuntime) -> Result<(), 
     Ok(())
 }
 
-const TRAILERS: [Case; 10] = [
+static TRAILERS: [Case; 10] = [
     (
         b"POST / HTTP/1.1\r\nTransfer-Encoding: chunked\r\n\r\n00\r\n\r\n",
         1,

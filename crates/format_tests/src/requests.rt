@@ -122,83 +122,74 @@ fn filled(
     Ok(text)
 }
 
+/// A text by its front, its middle, how many times that comes, and its back.
+type Parts<'a> = (&'a [u8], &'a [u8], usize, &'a [u8]);
+
+/// Whether the text comes to this, with no content, in large pieces and in single bytes.
+fn comes(alloc: Global, parts: &Parts, whole: u64, outcome: Outcome) -> Result<bool, Fail> {
+    let (front, middle, count, back) = *parts;
+    let text = filled(alloc, front, middle, count, back)?;
+    Ok(in_large_and_small(alloc, &text, whole, outcome, b""))
+}
+
+/// Whether one text is a whole request, and the other comes to this in its place.
+fn is_limit(alloc: Global, last: &Parts, over: &Parts, outcome: Outcome) -> Result<bool, Fail> {
+    Ok(comes(alloc, last, 1, Outcome::End)? && comes(alloc, over, 0, outcome)?)
+}
+
+/// The front of a head, which has 19 bytes.
+const IN_LINE: &[u8] = b"GET / HTTP/1.1\r\na: ";
+
+/// The end of the last line of a head, and the line that ends it, which have 4 bytes.
+const LAST: &[u8] = b"\r\n\r\n";
+
 #[test]
 fn a_head_has_at_most_16384_bytes(rt: HostRuntime) -> Result<(), Fail> {
-    let alloc = rt.alloc();
-    let front = b"GET / HTTP/1.1\r\na: ".as_slice();
-    let back = b"\r\n\r\n".as_slice();
-    // 19 bytes before, and 4 behind
-    for (count, whole, outcome) in [
-        (16_361usize, 1u64, Outcome::End),
-        (16_362, 0, Outcome::HeadTooLarge),
-    ] {
-        let text = filled(alloc, front, b"x", count, back)?;
-        assert!(rt;
-            in_large_and_small(alloc, &text, whole, outcome, b""),
-            "at {count}"
-        );
-    }
-    let text = filled(alloc, front, b"x", 16_365, b"")?;
+    let last = (IN_LINE, b"x".as_slice(), 16_361usize, LAST);
+    let over = (IN_LINE, b"x".as_slice(), 16_362usize, LAST);
+    assert!(rt; is_limit(rt.alloc(), &last, &over, Outcome::HeadTooLarge)?);
+    let text = filled(rt.alloc(), IN_LINE, b"x", 16_365, b"")?;
     assert!(rt; text.len() == HEAD_MAX_BYTES);
-    assert!(rt; in_large_and_small(alloc, &text, 0, Outcome::HeadTooLarge, b""));
+    assert!(rt; in_large_and_small(rt.alloc(), &text, 0, Outcome::HeadTooLarge, b""));
     Ok(())
 }
 
 #[test]
 fn a_head_has_at_most_64_lines(rt: HostRuntime) -> Result<(), Fail> {
-    let alloc = rt.alloc();
     let front = b"GET / HTTP/1.1\r\n".as_slice();
-    for (count, whole, outcome) in [
-        (HEAD_MAX_LINES, 1u64, Outcome::End),
-        (65, 0, Outcome::HeadTooLarge),
-    ] {
-        let text = filled(alloc, front, b"a: b\r\n", count, b"\r\n")?;
-        assert!(rt;
-            in_large_and_small(alloc, &text, whole, outcome, b""),
-            "at {count}"
-        );
-    }
+    let last = (
+        front,
+        b"a: b\r\n".as_slice(),
+        HEAD_MAX_LINES,
+        b"\r\n".as_slice(),
+    );
+    let over = (front, b"a: b\r\n".as_slice(), 65usize, b"\r\n".as_slice());
+    assert!(rt; is_limit(rt.alloc(), &last, &over, Outcome::HeadTooLarge)?);
     Ok(())
 }
 
 #[test]
 fn trailers_have_the_limits_of_a_head(rt: HostRuntime) -> Result<(), Fail> {
-    let alloc = rt.alloc();
-    let over = Outcome::InBody(BodyEnd::TooLarge);
+    let outcome = Outcome::InBody(BodyEnd::TooLarge);
     let front = b"GET / HTTP/1.1\r\nTransfer-Encoding: chunked\r\n\r\n0\r\n".as_slice();
-    for (count, whole, outcome) in [(64usize, 1u64, Outcome::End), (65, 0, over)] {
-        let text = filled(alloc, front, b"a: b\r\n", count, b"\r\n")?;
-        assert!(rt;
-            in_large_and_small(alloc, &text, whole, outcome, b""),
-            "at {count}"
-        );
-    }
+    let last = (front, b"a: b\r\n".as_slice(), 64usize, b"\r\n".as_slice());
+    let over = (front, b"a: b\r\n".as_slice(), 65usize, b"\r\n".as_slice());
+    assert!(rt; is_limit(rt.alloc(), &last, &over, outcome)?);
     let front = b"GET / HTTP/1.1\r\nTransfer-Encoding: chunked\r\n\r\n0\r\na: ".as_slice();
     // 3 bytes before, and 4 behind
-    for (count, whole, outcome) in [(16_377usize, 1u64, Outcome::End), (16_378, 0, over)] {
-        let text = filled(alloc, front, b"x", count, b"\r\n\r\n")?;
-        assert!(rt;
-            in_large_and_small(alloc, &text, whole, outcome, b""),
-            "at {count}"
-        );
-    }
+    let last = (front, b"x".as_slice(), 16_377usize, LAST);
+    let over = (front, b"x".as_slice(), 16_378usize, LAST);
+    assert!(rt; is_limit(rt.alloc(), &last, &over, outcome)?);
     Ok(())
 }
 
 #[test]
 fn a_chunk_line_has_at_most_4096_bytes(rt: HostRuntime) -> Result<(), Fail> {
-    let alloc = rt.alloc();
     let front = b"GET / HTTP/1.1\r\nTransfer-Encoding: chunked\r\n\r\n0;".as_slice();
-    for (count, whole, outcome) in [
-        (4_094usize, 1u64, Outcome::End),
-        (4_095, 0, Outcome::InBody(BodyEnd::Bad)),
-    ] {
-        let text = filled(alloc, front, b"x", count, b"\r\n\r\n")?;
-        assert!(rt;
-            in_large_and_small(alloc, &text, whole, outcome, b""),
-            "at {count}"
-        );
-    }
+    let last = (front, b"x".as_slice(), 4_094usize, LAST);
+    let over = (front, b"x".as_slice(), 4_095usize, LAST);
+    let outcome = Outcome::InBody(BodyEnd::Bad);
+    assert!(rt; is_limit(rt.alloc(), &last, &over, outcome)?);
     Ok(())
 }
 
@@ -242,7 +233,7 @@ fn asks(alloc: Global, text: &[u8], token: Option<&[u8]>, argument: Option<&[u8]
 }
 
 /// A head with the token and the argument that stand in it.
-const ASKING: [(&[u8], Option<&[u8]>, Option<&[u8]>); 5] = [
+static ASKING: [(&[u8], Option<&[u8]>, Option<&[u8]>); 5] = [
     (
         b"POST / HTTP/1.1\r\nauthorization: bEARER ab-c\r\nDROPBOX-API-ARG: {}\r\n\r\n",
         Some(b"ab-c"),
@@ -278,7 +269,7 @@ fn a_head_says_who_asks_for_what(rt: HostRuntime) {
 }
 
 /// A head, the length that it states, whether an interim reply is due, and whether the connection ends with it.
-const GOING_ON: [(&[u8], Length, bool, bool); 10] = [
+static GOING_ON: [(&[u8], Length, bool, bool); 10] = [
     (
         b"POST / HTTP/1.1\r\nexpect: 100-Continue\r\nContent-Length: 2\r\n\r\nhi",
         Length::Known(2),

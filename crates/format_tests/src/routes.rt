@@ -3,7 +3,7 @@ use fh_model::{LAST_SECOND, Text};
 use std::alloc::Global;
 use std::test::*;
 
-const TARGETS: [(&str, Option<Route>); 13] = [
+static TARGETS: [(&str, Option<Route>); 13] = [
     ("/2/files/create_folder_v2", Some(Route::CreateFolder)),
     ("/2/files/get_metadata", Some(Route::GetMetadata)),
     ("/2/files/upload", Some(Route::Upload)),
@@ -38,7 +38,7 @@ fn a_target_is_a_route_byte_by_byte(rt: HostRuntime) -> Result<(), Fail> {
 }
 
 /// A moment and its text.
-const STAMPS: [(u64, &str); 15] = [
+static STAMPS: [(u64, &str); 15] = [
     (0, "1970-01-01T00:00:00Z"),
     (59, "1970-01-01T00:00:59Z"),
     (3_599, "1970-01-01T00:59:59Z"),
@@ -75,7 +75,7 @@ fn a_moment_is_written_and_read(rt: HostRuntime) -> Result<(), Fail> {
     Ok(())
 }
 
-const NO_STAMPS: [&str; 30] = [
+static NO_STAMPS: [&str; 30] = [
     "",
     "2023-11-14",
     "2023-11-14T22:13:20",
@@ -108,12 +108,17 @@ const NO_STAMPS: [&str; 30] = [
     "9999-99-99T99:99:99Z",
 ];
 
+/// Whether the text is read as a moment.
+fn is_read(alloc: Global, text: &str) -> Result<bool, Fail> {
+    let shown = Text::new(String::from_str(alloc, text)?);
+    Ok(read_stamp(&shown).is_some())
+}
+
 /// The first of these texts that is read, if there is one.
 fn first_read(alloc: Global) -> Result<Option<&'static str>, Fail> {
-    for text in NO_STAMPS {
-        let shown = Text::new(String::from_str(alloc, text)?);
-        if read_stamp(&shown).is_some() {
-            return Ok(Some(text));
+    for text in &NO_STAMPS {
+        if is_read(alloc, *text)? {
+            return Ok(Some(*text));
         }
     }
     Ok(None)

@@ -144,7 +144,7 @@ fn a_namespace_is_read(rt: HostRuntime) -> Result<(), Fail> {
 }
 
 /// A row, the place of a byte that is changed, what it becomes, and the first bad place.
-const CHANGED: [(&[u8], usize, u8, usize); 10] = [
+static CHANGED: [(&[u8], usize, u8, usize); 10] = [
     (&COUNTERS, 0, 127, 0),
     (&COUNTERS, 0, 131, 0),
     (&COUNTERS, 0, 1, 0),

@@ -3,7 +3,7 @@ use fh_model::Text;
 use std::test::*;
 
 /// The bytes, and the place of the first bad one where they are no text.
-const TEXTS: [(&[u8], Option<usize>); 20] = [
+static TEXTS: [(&[u8], Option<usize>); 20] = [
     (b"", None),
     (b"/Docs", None),
     // The first and the last characters of each length but the first of one byte.
@@ -35,15 +35,32 @@ const TEXTS: [(&[u8], Option<usize>); 20] = [
     (b"\xED\x9F\xBF\xEE\x80\x80\xC2", Some(6)),
 ];
 
-/// The place of the first byte with which these begin no text, none where they are one.
-fn first_bad(rt: HostRuntime, bytes: &[u8]) -> Result<Option<usize>, Fail> {
+/// The bytes behind their length, as a text is spelled.
+fn spelled(rt: HostRuntime, bytes: &[u8]) -> Result<Vec<u8>, Fail> {
     let len = u32::try_from(bytes.len())?;
     let mut body = Vec::new(rt.alloc());
     body.extend_from_slice(&len.to_be_bytes())?;
     body.extend_from_slice(bytes)?;
+    Ok(body)
+}
+
+/// Fails where a text has other bytes than these.
+fn expect_bytes(text: &Text, bytes: &[u8]) -> Result<(), Fail> {
+    if text.as_bytes() != bytes {
+        return Err("another text".into());
+    }
+    Ok(())
+}
+
+/// The place of the first byte with which these begin no text, none where they are one.
+fn first_bad(rt: HostRuntime, bytes: &[u8]) -> Result<Option<usize>, Fail> {
+    let body = spelled(rt, bytes)?;
     match Text::read(rt.alloc(), &body) {
-        Ok((text, rest)) if text.as_bytes() == bytes && rest.is_empty() => Ok(None),
-        Ok(_) => Err("another text".into()),
+        Ok((text, [])) => {
+            expect_bytes(&text, bytes)?;
+            Ok(None)
+        }
+        Ok(_) => Err("bytes behind the text".into()),
         Err(Stop::Bad(left)) if left <= bytes.len() => Ok(Some(bytes.len() - left)),
         Err(Stop::Bad(_)) => Err("a place in front of the text".into()),
         Err(Stop::NoMemory) => Err("out of memory".into()),

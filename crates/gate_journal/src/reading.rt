@@ -1,8 +1,8 @@
-ghost use Rattle.std.specs.Prelude.{◌≡◌, ◌<◌, ◌≤◌, ◌+◌, ℕ, false, length, IsTrue, IfOk, IfSome, IfNone, IsErrOf};
+ghost use Rattle.std.specs.Prelude.{◌≡◌, ◌<◌, ◌≤◌, ◌+◌, ◌^◌, ℕ, false, length, IsTrue, IfOk, OnOk, IfSome, IfNone, IsErrOf};
 ghost use Rattle.std.specs.Int.{w64, to_be_bytes, from_be_bytes};
 ghost use Rattle.fh_world.specs.declared.FileNo.{FileNo};
 ghost use Rattle.fh_world.specs.Causes.{Rose, CountsOnce};
-ghost use Rattle.fh_world.specs.Disk.{Rests, LeavesOnly};
+ghost use Rattle.fh_world.specs.Disk.{Only, Rests, LeavesOnly};
 ghost use Rattle.gate_journal.specs.Journal.{slot_of, is_pending, Settled};
 ghost use Rattle.gate_journal.specs.Slot.{found, Held, Broken, records, length_field, AllShort, IsWhole, IsAtRest};
 
@@ -34,12 +34,30 @@ pub fn open<D: Disk>(
     ensures memory { IsErrOf result OpenFault.NoMemory → D.faults disk.new ≡ D.faults disk.old }
     ensures damage { (place : ℕ) → IsErrOf result (OpenFault.Damaged place) → D.faults disk.new ≡ D.faults disk.old }
 {
+    let bytes = read_synced(alloc, disk, slot)?;
+    let (records, end) = parse(alloc, &bytes)?;
+    Ok((Journal::behind(slot, end as u64), records))
+}
+
+/// The bytes of a slot, which is synced first, so that a crash leaves them.
+fn read_synced<D: Disk>(alloc: Global, disk: &mut D, slot: FileNo) -> Result<Vec<u8>, OpenFault>
+    ensures bytes { IfOk result (λ bytes. IsTrue D.tells → bytes.items ≡ D.seen disk.old slot) }
+    ensures limit { IfOk result (λ bytes. length bytes.items ≤ 2 ^ 62) }
+    ensures durable { OnOk result (Only (D.seen disk.old slot) (D.may_leave disk.new slot)) }
+    ensures rests { Rests (D.seen disk.old) (D.seen disk.new) (D.may_leave disk.old) (D.may_leave disk.new) }
+    ensures any_moment { LeavesOnly D.moment D.left_since disk.old disk.new (λ image. (g : FileNo) → D.may_leave disk.old g (image g)) }
+    ensures place { D.place disk.new ≡ D.place disk.old }
+    ensures later { D.faults disk.old ≤ D.faults disk.new }
+    ensures cause { IsErrOf result OpenFault.Disk → Rose (D.faults disk.old) (D.faults disk.new) }
+    ensures once { CountsOnce (D.faults disk.old) (D.faults disk.new) result }
+    ensures memory { IsErrOf result OpenFault.NoMemory → D.faults disk.new ≡ D.faults disk.old }
+    ensures no_damage { (place : ℕ) → IsErrOf result (OpenFault.Damaged place) → ⊥ }
+{
     disk.sync(slot)?;
     let len = disk.len(slot)?;
     let mut bytes = vec![in alloc; 0u8; len as usize]?;
     disk.read_at(slot, 0, &mut bytes)?;
-    let (records, end) = parse(alloc, &bytes)?;
-    Ok((Journal::behind(slot, end as u64), records))
+    Ok(bytes)
 }
 
 /// The records of a slot's bytes, and the place of the gate behind them.

@@ -1,5 +1,5 @@
 -- How a run of `pipe` and its status follow from the opening of the store and from the connection.
-use Rattle.std.proofs.Common.{◌≡◌, ◌⊎◌, ℕ, ◌+◌, ◌<◌, ◌≤◌, List, [], ◌++◌, length, Bool, Option, None, Some, Result, Ok, Err, ◌∙◌, ap, sym, refl, subst, append-nil, inl, inr, arith, true, false, IsTrue, take}
+use Rattle.std.proofs.Common.{◌≡◌, ◌⊎◌, ℕ, ◌<◌, ◌≤◌, List, [], ◌++◌, length, Bool, Option, None, Some, Result, Ok, Err, ◌∙◌, ap, sym, refl, subst, append-nil, inl, inr, arith, true, false, IsTrue, take}
 use Rattle.std.proofs.Math.Nat.{add-zero}
 use Rattle.fh_world.specs.Bytes.{Moves}
 use Rattle.fh_world.specs.Causes.{Rose}

@@ -6,7 +6,7 @@ mod stores;
 mod words;
 
 use fh_world::{Disk, FakeClock, MemDisk, MemSink, MemSource};
-use host_top::{Status, run_pipe};
+use host_top::{Status, run_pipe, status_line};
 use std::alloc::{AllocError, Global};
 use std::test::Fail;
 
@@ -43,10 +43,90 @@ pub(crate) fn joined(alloc: Global, parts: &[&[u8]]) -> Result<Vec<u8>, AllocErr
     Ok(bytes)
 }
 
+/// Whether the bytes are these parts, one behind another.
+pub(crate) fn are_parts(bytes: &[u8], parts: &[&[u8]]) -> bool {
+    let mut rest = bytes;
+    for part in parts {
+        match rest.strip_prefix(*part) {
+            Some(left) => rest = left,
+            None => return false,
+        }
+    }
+    rest.is_empty()
+}
+
+/// Whether the line of a status is this one.
+pub(crate) fn has_line(alloc: Global, status: Status, line: &str) -> Result<bool, Fail> {
+    let text = status_line(alloc, &status)?;
+    Ok(text.as_str() == line)
+}
+
 /// One run over an empty disk and ends in memory.
 pub(crate) fn run(rt: &HostRuntime, input: &[u8]) -> Result<(Status, MemSink), Fail> {
     let mut disk = MemDisk::new(rt.alloc())?;
     run_over(rt, &mut disk, &PIPE, input, &[], &[])
+}
+
+/// Whether a run over an empty disk, whose input is these parts, ends so and tells these parts.
+pub(crate) fn tells_first(
+    rt: &HostRuntime,
+    input: &[&[u8]],
+    end: Status,
+    output: &[&[u8]],
+) -> Result<bool, Fail> {
+    let mut disk = MemDisk::new(rt.alloc())?;
+    tells(rt, &mut disk, input, end, output)
+}
+
+/// Whether a run over a disk, whose input is these parts, ends so and tells these parts.
+pub(crate) fn tells<D: Disk>(
+    rt: &HostRuntime,
+    disk: &mut D,
+    input: &[&[u8]],
+    end: Status,
+    output: &[&[u8]],
+) -> Result<bool, Fail> {
+    let input = joined(rt.alloc(), input)?;
+    let (status, sink) = run_over(rt, disk, &PIPE, &input, &[], &[])?;
+    Ok(status == end && are_parts(sink.bytes(), output))
+}
+
+/// Whether a run over a disk, whose first read and first write fail, ends so and tells nothing.
+pub(crate) fn ends_untold<D: Disk>(
+    rt: &HostRuntime,
+    disk: &mut D,
+    words: &[&str],
+    end: Status,
+) -> Result<bool, Fail> {
+    let (status, sink) = run_over(rt, disk, words, DOCS, &[1], &[1])?;
+    Ok(status == end && sink.bytes().is_empty())
+}
+
+/// The input in pieces of 7 bytes, where the reads with these numbers fail.
+fn source_of(alloc: Global, input: &[u8], failing: &[u64]) -> Result<MemSource, Fail> {
+    let mut source = MemSource::new(Vec::from_slice(alloc, input)?, 7);
+    source.fail_calls(failing)?;
+    Ok(source)
+}
+
+/// An end in memory, where the writes with these numbers fail.
+fn sink_of(alloc: Global, failing: &[u64]) -> Result<MemSink, Fail> {
+    let mut sink = MemSink::new(alloc);
+    sink.fail_calls(failing)?;
+    Ok(sink)
+}
+
+/// How a run over a disk between two ends in memory ends.
+pub(crate) fn run_between<D: Disk>(
+    alloc: Global,
+    disk: &mut D,
+    words: &[&str],
+    source: &mut MemSource,
+    sink: &mut MemSink,
+) -> Result<Status, Fail> {
+    let words = words_of(alloc, words)?;
+    let mut clock = FakeClock::new(1_700_000_000);
+    Ok(run_pipe(alloc, &words, disk, source, sink, &mut clock))
 }
 
 /// One run over a disk and ends in memory. The input comes in pieces of 7 bytes.
@@ -58,13 +138,8 @@ pub(crate) fn run_over<D: Disk>(
     failing_reads: &[u64],
     failing_writes: &[u64],
 ) -> Result<(Status, MemSink), Fail> {
-    let alloc = rt.alloc();
-    let mut source = MemSource::new(Vec::from_slice(alloc, input)?, 7);
-    source.fail_calls(failing_reads)?;
-    let mut sink = MemSink::new(alloc);
-    sink.fail_calls(failing_writes)?;
-    let mut clock = FakeClock::new(1_700_000_000);
-    let words = words_of(alloc, words)?;
-    let status = run_pipe(alloc, &words, disk, &mut source, &mut sink, &mut clock);
+    let mut source = source_of(rt.alloc(), input, failing_reads)?;
+    let mut sink = sink_of(rt.alloc(), failing_writes)?;
+    let status = run_between(rt.alloc(), disk, words, &mut source, &mut sink)?;
     Ok((status, sink))
 }

@@ -1,10 +1,10 @@
-use crate::rows::{applied, fresh, put_number, put_shown, replied, settled, text};
-use fh_model::{Act, Cmd, Found, Members, Name, Node, Reply, Row, Text};
+use crate::rows::{expect_settled, fresh, judged, put_number, put_shown, text};
+use fh_model::{Act, Cmd, Found, Members, Name, Node, Row, Text};
 use name_core::{Image, LookFault};
 use std::test::*;
 
 /// A path that a folder is made at, and the reply: the new id with the shown names, or the tags of the refusal.
-const MADE: [(&str, &str); 21] = [
+static MADE: [(&str, &str); 21] = [
     ("/straße", "1/straße"),
     ("/STRASSE", "path.conflict.folder."),
     ("/Strasse/B/c", "3/straße/B/c"),
@@ -29,7 +29,7 @@ const MADE: [(&str, &str); 21] = [
 ];
 
 /// A path and what it leads to after these: the id with the shown and the folded names, or the fault.
-const FOUND: [(&str, &str); 19] = [
+static FOUND: [(&str, &str); 19] = [
     ("/STRASSE", "1/straße/strasse"),
     ("/STRASSE/b", "2/straße/B/strasse/b"),
     ("id:0000000000000002", "2/straße/B/strasse/b"),
@@ -102,21 +102,10 @@ fn looked(rt: HostRuntime, image: &Image, user: u64, path: &str) -> Result<Strin
     Ok(line)
 }
 
-/// Fails where another reply is wanted, and tells the one that came.
-fn expect_reply(rt: HostRuntime, reply: &Reply, want: &str) -> Result<(), Fail> {
-    let told = replied(rt, reply)?;
-    if told.as_str() != want {
-        return Err(told.as_str().into());
-    }
-    Ok(())
-}
-
 /// The image after a folder is made. It fails where another reply is wanted.
 fn made_at(rt: HostRuntime, image: &Image, path: &str, want: &str) -> Result<Image, Fail> {
     let cmd = make(rt, 1, path)?;
-    let (next, reply) = applied(image, &cmd)?;
-    expect_reply(rt, &reply, want)?;
-    Ok(next)
+    judged(rt, image, &cmd, want)
 }
 
 /// The image after the folders of the first table. It fails with the first path that is answered otherwise.
@@ -160,8 +149,7 @@ fn expect_refusal(
     want: &str,
 ) -> Result<(), Fail> {
     let cmd = make(rt, user, path)?;
-    let reply = settled(image, &cmd)?;
-    expect_reply(rt, &reply, want)
+    expect_settled(rt, image, &cmd, want)
 }
 
 #[test]
@@ -171,12 +159,17 @@ fn paths_lead_to_one_place_however_they_are_cased(rt: HostRuntime) -> Result<(),
     look_at_all(rt, &image)
 }
 
+/// Fails where a user that isn't there finds or makes something.
+fn expect_nothing(rt: HostRuntime, image: &Image, user: u64) -> Result<(), Fail> {
+    expect_look(rt, image, user, "", "not found")?;
+    expect_look(rt, image, user, "/x/", "malformed")?;
+    expect_refusal(rt, image, user, "/x/", "user.not_found.")
+}
+
 #[test]
 fn an_unknown_user_finds_nothing(rt: HostRuntime) -> Result<(), Fail> {
     let image = fresh(rt)?;
-    expect_look(rt, &image, 2, "", "not found")?;
-    expect_look(rt, &image, 2, "/x/", "malformed")?;
-    expect_refusal(rt, &image, 2, "/x/", "user.not_found.")
+    expect_nothing(rt, &image, 2)
 }
 
 fn space(rt: HostRuntime, number: u64) -> Row {
@@ -228,7 +221,7 @@ fn rows_of_two(rt: HostRuntime) -> Result<Vec<Row>, Fail> {
 }
 
 /// Tokens, and the users that have them.
-const TOKENS: [(&str, Option<u64>); 3] = [
+static TOKENS: [(&str, Option<u64>); 3] = [
     ("abcdefgh", Some(2)),
     ("abcdefg", None),
     ("abcdefghi", None),
@@ -238,13 +231,26 @@ fn two_users(rt: HostRuntime) -> Result<Image, Fail> {
     Ok(Image::from_rows(rt.alloc(), &rows_of_two(rt)?)?)
 }
 
+/// Fails with the first of the tokens that is another user's.
+fn expect_tokens(image: &Image) -> Result<(), Fail> {
+    for (token, user) in &TOKENS {
+        if image.token_user(token.as_bytes()) != *user {
+            return Err((*token).into());
+        }
+    }
+    Ok(())
+}
+
+/// Fails where another than the two users has a home, or one of the tokens is another user's.
+fn expect_users(image: &Image) -> Result<(), Fail> {
+    if image.home_of(2) != Some(2) || image.home_of(3) != None {
+        return Err("another home".into());
+    }
+    expect_tokens(image)
+}
+
 #[test]
 fn a_token_is_of_one_user_as_a_whole(rt: HostRuntime) -> Result<(), Fail> {
     let image = two_users(rt)?;
-    for (token, user) in &TOKENS {
-        assert!(rt; image.token_user(token.as_bytes()) == *user);
-    }
-    assert!(rt; image.home_of(2) == Some(2));
-    assert!(rt; image.home_of(3) == None);
-    Ok(())
+    expect_users(&image)
 }

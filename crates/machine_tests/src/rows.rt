@@ -16,7 +16,7 @@ pub(crate) fn applied(image: &Image, cmd: &Cmd) -> Result<(Image, Reply), Fail> 
 }
 
 /// The reply to a command that isn't to enter.
-pub(crate) fn settled(image: &Image, cmd: &Cmd) -> Result<Reply, Fail> {
+fn settled(image: &Image, cmd: &Cmd) -> Result<Reply, Fail> {
     Ok(image.settle(cmd)?)
 }
 
@@ -80,10 +80,37 @@ fn put_reply(line: &mut String, reply: &Reply) -> Result<(), Fail> {
 
 /// A reply as a text: of a folder the id and the shown names, of a file the rev, the id, the shown names and the size,
 /// of a refusal the session that has the data and the tags.
-pub(crate) fn replied(rt: HostRuntime, reply: &Reply) -> Result<String, Fail> {
+fn replied(rt: HostRuntime, reply: &Reply) -> Result<String, Fail> {
     let mut line = String::new(rt.alloc());
     put_reply(&mut line, reply)?;
     Ok(line)
+}
+
+/// Fails where another reply is wanted, and tells the one that came.
+fn expect_reply(rt: HostRuntime, reply: &Reply, want: &str) -> Result<(), Fail> {
+    let told = replied(rt, reply)?;
+    if told.as_str() != want {
+        return Err(told.as_str().into());
+    }
+    Ok(())
+}
+
+/// The image after a command. It fails where another reply is wanted.
+pub(crate) fn judged(rt: HostRuntime, image: &Image, cmd: &Cmd, want: &str) -> Result<Image, Fail> {
+    let (next, reply) = applied(image, cmd)?;
+    expect_reply(rt, &reply, want)?;
+    Ok(next)
+}
+
+/// Fails where another reply to a command that isn't to enter is wanted.
+pub(crate) fn expect_settled(
+    rt: HostRuntime,
+    image: &Image,
+    cmd: &Cmd,
+    want: &str,
+) -> Result<(), Fail> {
+    let reply = settled(image, cmd)?;
+    expect_reply(rt, &reply, want)
 }
 
 /// A row in few words.
@@ -133,7 +160,7 @@ fn rows_of(alloc: Global, sketches: &[Sketch]) -> Result<Vec<Row>, Fail> {
 }
 
 /// Rows, and the first of them that breaks a rule.
-const BROKEN: [(&[Sketch], usize); 10] = [
+static BROKEN: [(&[Sketch], usize); 10] = [
     (
         &[
             Sketch::User(1, 1),
@@ -204,9 +231,14 @@ const BROKEN: [(&[Sketch], usize); 10] = [
     ),
 ];
 
+fn fresh_rows(rt: HostRuntime) -> Result<Vec<Row>, Fail> {
+    let image = fresh(rt)?;
+    Ok(image.rows()?)
+}
+
 /// The image of the rows of a new store, of which there are three.
 fn reopened(rt: HostRuntime) -> Result<Image, Fail> {
-    let rows = fresh(rt)?.rows()?;
+    let rows = fresh_rows(rt)?;
     if rows.len() != 3 {
         return Err("not three rows".into());
     }
@@ -245,20 +277,38 @@ fn is_refused(image: &Image, cmd: &Cmd) -> Result<bool, Fail> {
     Ok(!is_entry(&reply))
 }
 
-/// How many commands a copy keeps that was told to forget them.
+/// How many commands an image keeps that was told to forget them.
 fn kept_after_forgetting(image: &Image) -> Result<usize, Fail> {
-    let copy = image.copy()?;
-    let forgotten = copy.forget()?;
+    let forgotten = image.forget()?;
     Ok(forgotten.kept())
 }
 
-/// Whether an image that is made behind one is at a moment, keeps the one command, refuses it when it comes again, and can
-/// forget it.
+/// How many commands a copy keeps that was told to forget them.
+fn kept_by_copy(image: &Image) -> Result<usize, Fail> {
+    let copy = image.copy()?;
+    kept_after_forgetting(&copy)
+}
+
+/// Whether an image is at a moment, keeps the one command, refuses it when it comes again, and can forget it.
+fn keeps_one(image: &Image, cmd: &Cmd, moment: u64) -> Result<bool, Fail> {
+    let is_refused = is_refused(image, cmd)?;
+    let left = kept_by_copy(image)?;
+    Ok(image.moment() == moment && image.kept() == 1 && is_refused && left == 0)
+}
+
+/// Whether the image behind a command is at a moment, and keeps it as its one command.
 fn makes_one(image: &Image, cmd: &Cmd, moment: u64) -> Result<bool, Fail> {
     let next = entered(image, cmd)?;
-    let is_refused = is_refused(&next, cmd)?;
-    let left = kept_after_forgetting(&next)?;
-    Ok(next.moment() == moment && next.kept() == 1 && is_refused && left == 0)
+    keeps_one(&next, cmd, moment)
+}
+
+/// Fails where an image keeps something at first, or then anything but the one command that makes a folder.
+fn expect_first(rt: HostRuntime, image: &Image) -> Result<(), Fail> {
+    let cmd = make_docs(rt)?;
+    if image.kept() != 0 || image.moment() != 0 || !makes_one(image, &cmd, 7)? {
+        return Err("another image".into());
+    }
+    Ok(())
 }
 
 /// Why the rows are no state.
@@ -269,10 +319,7 @@ fn fault_of(alloc: Global, rows: &[Row]) -> Option<RowsFault> {
 #[test]
 fn the_rows_of_a_new_store_are_read_back(rt: HostRuntime) -> Result<(), Fail> {
     let image = reopened(rt)?;
-    assert!(rt; image.kept() == 0 && image.moment() == 0);
-    let made = makes_one(&image, &make_docs(rt)?, 7)?;
-    assert!(rt; made);
-    Ok(())
+    expect_first(rt, &image)
 }
 
 #[test]

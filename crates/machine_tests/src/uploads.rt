@@ -1,4 +1,4 @@
-use crate::rows::{applied, fresh, replied, settled, text};
+use crate::rows::{applied, expect_settled, fresh, judged, text};
 use fh_model::{Act, Bytes32, Cmd, Commit, Found, Mode, Node, Piece};
 use name_core::Image;
 use std::test::*;
@@ -14,7 +14,7 @@ enum Sketch {
 }
 
 /// Uploads one after another, and their replies.
-const UPLOADS: [(Sketch, &str); 15] = [
+static UPLOADS: [(Sketch, &str); 15] = [
     (Sketch::Add("/a.txt", 5), "1.1/a.txt 5"),
     (Sketch::Add("/A.TXT", 5), "1.1/a.txt 5"),
     (Sketch::Strict("/a.txt", 5), "us1 path.conflict.file."),
@@ -80,30 +80,16 @@ fn upload(rt: HostRuntime, user: u64, sketch: Sketch, drafted: u32) -> Result<Cm
     })
 }
 
-/// The image after an upload, and what it was told.
-fn told(
-    rt: HostRuntime,
-    image: &Image,
-    sketch: Sketch,
-    drafted: u32,
-) -> Result<(Image, String), Fail> {
-    let cmd = upload(rt, 1, sketch, drafted)?;
-    let (next, reply) = applied(image, &cmd)?;
-    let told = replied(rt, &reply)?;
-    Ok((next, told))
+/// The image after an upload. It fails where another reply is wanted.
+fn answered(rt: HostRuntime, image: &Image, sketch: Sketch, want: &str) -> Result<Image, Fail> {
+    let cmd = upload(rt, 1, sketch, 0)?;
+    judged(rt, image, &cmd, want)
 }
 
-/// The image after an upload. It fails where another reply is wanted.
-fn judged(
-    rt: HostRuntime,
-    image: &Image,
-    sketch: Sketch,
-    want: &'static str,
-) -> Result<Image, Fail> {
-    let (next, told) = told(rt, image, sketch, 0)?;
-    if told.as_str() != want {
-        return Err(want.into());
-    }
+/// The image after an upload, whatever it is told.
+fn entered(rt: HostRuntime, image: &Image, sketch: Sketch, drafted: u32) -> Result<Image, Fail> {
+    let cmd = upload(rt, 1, sketch, drafted)?;
+    let (next, _) = applied(image, &cmd)?;
     Ok(next)
 }
 
@@ -111,13 +97,13 @@ fn judged(
 fn uploaded(rt: HostRuntime) -> Result<Image, Fail> {
     let mut image = fresh(rt)?;
     for (sketch, want) in &UPLOADS {
-        image = judged(rt, &image, *sketch, *want)?;
+        image = answered(rt, &image, *sketch, *want)?;
     }
     Ok(image)
 }
 
-/// Revs, and the size of the version that has each.
-const SIZES: [(u64, Option<u64>); 5] = [
+/// Revs of these uploads, and the size of the version that has each.
+static SIZES: [(u64, Option<u64>); 5] = [
     (1, Some(5)),
     (2, Some(6)),
     (5, Some(1)),
@@ -130,6 +116,16 @@ fn size_of(image: &Image, rev: u64) -> Option<u64> {
         Some(meta) => Some(meta.size),
         None => None,
     }
+}
+
+/// Fails with the first rev whose version has another size.
+fn expect_sizes(image: &Image, sizes: &[(u64, Option<u64>)]) -> Result<(), Fail> {
+    for (rev, size) in sizes {
+        if size_of(image, *rev) != *size {
+            return Err((*rev).into());
+        }
+    }
+    Ok(())
 }
 
 fn is_version(there: &Found, rev: u64, size: u64) -> bool {
@@ -146,52 +142,76 @@ fn leads_to(rt: HostRuntime, image: &Image, path: &str, rev: u64, size: u64) -> 
     Ok(is_version(&there, rev, size))
 }
 
+/// Fails where not all the uploads and their versions are kept, or one of `/a.txt` isn't found by its rev or the path.
+fn expect_versions(rt: HostRuntime, image: &Image) -> Result<(), Fail> {
+    let first = leads_to(rt, image, "rev:0000000000000001", 1, 5)?;
+    let now = leads_to(rt, image, "/a.txt", 3, 7)?;
+    if !(first && now) || image.kept() != 15 {
+        return Err("another version".into());
+    }
+    expect_sizes(image, &SIZES)
+}
+
 #[test]
 fn uploads_are_judged_and_each_version_is_kept(rt: HostRuntime) -> Result<(), Fail> {
     let image = uploaded(rt)?;
-    assert!(rt; image.kept() == 15);
-    for (rev, size) in &SIZES {
-        assert!(rt; size_of(&image, *rev) == *size, "rev {rev}");
+    expect_versions(rt, &image)
+}
+
+/// Revs of one file, each version of which has as many bytes as its rev says.
+static MANY: [(u64, Option<u64>); 4] = [
+    (1, Some(1)),
+    (128, Some(128)),
+    (129, Some(129)),
+    (300, Some(300)),
+];
+
+/// The image after 300 versions of one file, the first of which has one byte and each other one more.
+fn overwritten(rt: HostRuntime) -> Result<Image, Fail> {
+    let mut image = fresh(rt)?;
+    for len in 1..301 {
+        image = entered(rt, &image, Sketch::Overwrite("/a.txt", len), 0)?;
     }
-    let first = leads_to(rt, &image, "rev:0000000000000001", 1, 5)?;
-    let now = leads_to(rt, &image, "/a.txt", 3, 7)?;
-    assert!(rt; first && now);
-    Ok(())
+    Ok(image)
 }
 
 #[test]
 fn each_of_many_versions_is_kept(rt: HostRuntime) -> Result<(), Fail> {
-    let mut image = fresh(rt)?;
-    for len in 1..301 {
-        let (next, _) = told(rt, &image, Sketch::Overwrite("/a.txt", len), 0)?;
-        image = next;
-    }
-    for rev in [1u64, 128, 129, 300] {
-        assert!(rt; size_of(&image, rev) == Some(rev), "rev {rev}");
-    }
-    Ok(())
+    let image = overwritten(rt)?;
+    expect_sizes(&image, &MANY)
 }
 
-/// Whether an upload by a user is refused with this tag. One of user 1 names a piece of a draft that isn't there.
-fn is_refused(
+/// Fails where an upload by a user isn't refused with this tag. One of user 1 names a piece of a draft that isn't there.
+fn expect_refusal(
     rt: HostRuntime,
     image: &Image,
     user: u64,
     sketch: Sketch,
     tag: &str,
-) -> Result<bool, Fail> {
+) -> Result<(), Fail> {
     let cmd = upload(rt, user, sketch, u32::from(user == 1))?;
-    let reply = settled(image, &cmd)?;
-    Ok(replied(rt, &reply)?.as_str() == tag)
+    expect_settled(rt, image, &cmd, tag)
+}
+
+/// Fails where an image keeps something.
+fn expect_empty(image: &Image) -> Result<(), Fail> {
+    if image.kept() != 0 {
+        return Err(image.kept().into());
+    }
+    Ok(())
+}
+
+/// Fails where something is kept of a piece of a draft that isn't there, or where that, or an upload by a user that isn't there,
+/// is told otherwise.
+fn expect_nothing(rt: HostRuntime, image: &Image) -> Result<(), Fail> {
+    expect_refusal(rt, image, 1, Sketch::Add("/a", 1), "draft_gap.")?;
+    expect_refusal(rt, image, 2, Sketch::Add("/a", 0), "user.not_found.")?;
+    let next = entered(rt, image, Sketch::Add("/a", 1), 1)?;
+    expect_empty(&next)
 }
 
 #[test]
 fn data_that_is_no_file_changes_nothing(rt: HostRuntime) -> Result<(), Fail> {
     let image = fresh(rt)?;
-    let gap = is_refused(rt, &image, 1, Sketch::Add("/a", 1), "draft_gap.")?;
-    let unknown = is_refused(rt, &image, 2, Sketch::Add("/a", 0), "user.not_found.")?;
-    assert!(rt; gap && unknown);
-    let (next, _) = told(rt, &image, Sketch::Add("/a", 1), 1)?;
-    assert!(rt; next.kept() == 0);
-    Ok(())
+    expect_nothing(rt, &image)
 }

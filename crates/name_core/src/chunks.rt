@@ -1,8 +1,8 @@
 //! Lists that share their chunks with the lists that they are made of.
 ghost use Rattle.std.specs.Prelude.{◌≡◌, ◌++◌, ◌∷◌, [], length, flat_map, IfOk};
 
-use crate::shared::Shared;
-use fh_model::{Copies, Items, NoMemory, copy_all};
+use crate::shared::{Shared, copy_and};
+use fh_model::{Copies, Items, NoMemory};
 use std::alloc::Global;
 use std::marker::Model;
 
@@ -12,7 +12,7 @@ const CHUNK_ITEMS: usize = 128;
 /// A list that never changes. A list of one item more shares the full chunks with it and copies the items behind them
 /// alone, so that it costs the same however long the list is, but where a chunk becomes full. Contracts see the list of
 /// the items.
-#[derive(Debug, Drop)]
+#[derive(Drop)]
 pub(crate) struct Chunks<T> {
     full: Shared<Vec<Shared<Items<Shared<T>>>>>,
     last: Shared<Items<Shared<T>>>,
@@ -66,17 +66,17 @@ impl<T: Drop> Chunks<T> {
             return Err(NoMemory);
         };
         let alloc = *self.full.allocator();
-        let mut last = copy_all(alloc, self.last.as_slice())?;
-        last.push(item)?;
-        if last.len() < CHUNK_ITEMS {
+        let items = copy_and(alloc, self.last.as_slice(), item)?;
+        let is_full = CHUNK_ITEMS <= items.len();
+        let chunk = Shared::new(alloc, Items::new(items))?;
+        if !is_full {
             return Ok(Chunks {
                 full: self.full.copy()?,
-                last: Shared::new(alloc, Items::new(last))?,
+                last: chunk,
                 count,
             });
         }
-        let mut full = copy_all(alloc, &self.full)?;
-        full.push(Shared::new(alloc, Items::new(last))?)?;
+        let full = copy_and(alloc, &self.full, chunk)?;
         Ok(Chunks {
             full: Shared::new(alloc, full)?,
             last: Shared::new(alloc, Items::empty(alloc))?,

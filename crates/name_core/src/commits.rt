@@ -1,30 +1,32 @@
 //! What a commit of pieces does at its path.
-ghost use Rattle.std.specs.Prelude.{◌≡◌, ◌<◌, ◌^◌, false, IfOk, List, map, option_copied};
+ghost use Rattle.std.specs.Prelude.{◌≡◌, ◌<◌, ◌^◌, ◌+◌, ◌++◌, ◌∷◌, [], false, IfOk, List, map, option_copied};
 ghost use Rattle.std.specs.List.{list_any};
 ghost use Rattle.fh_model.specs.Commits.{clash, commit_for, commit_in, commit_over, judged, keep, tag_of, turned_down, with_file, write};
 ghost use Rattle.fh_model.specs.Content.{size_of};
+ghost use Rattle.fh_model.specs.declared.changes.Change.TheVariants.{Put};
+ghost use Rattle.fh_model.specs.declared.changes.Node.TheVariants.{File};
+ghost use Rattle.fh_model.specs.Folders.{folders};
 ghost use Rattle.fh_model.specs.Keys.{key_of};
-ghost use Rattle.fh_model.specs.State.{space_is_spent, tree_in};
+ghost use Rattle.fh_model.specs.State.{grown, space_is_spent, tree_in};
 ghost use Rattle.fh_model.specs.Trees.{item_at};
 ghost use Rattle.fh_model.specs.Verdicts.{target_of};
 ghost use Rattle.fh_model.specs.WritePlaces.{missed_above, shown_in};
 ghost use Rattle.name_core.specs.Committing.{committed_of};
 
-use crate::ends::end_over;
 use crate::files::{file_of, hash_on, id_over, next_over, size_of};
-use crate::machine::{Machine, grow_all, tags_of};
+use crate::machine::{Machine, tags_of};
 use crate::places::{is_below_file, path_of};
 use crate::shared::Shared;
 use crate::trees::item_at;
 use crate::verdicts::verdict;
-use crate::writing::{folders, missed_above, shown_in};
+use crate::writing::{folders_and_file, missed_above, shown_in};
 use fh_model::{
-    Change, Commit, Copies, Entry, FileMeta, Item, Kind, Name, Names, Next, NoMemory, Node, Pieces,
-    Revision, Tags, Verdict, copy_all,
+    Commit, Copies, Entry, FileMeta, Item, Kind, Name, Names, Next, NoMemory, Node, Pieces,
+    Revision, Tags, Verdict,
 };
 
 /// What a commit did.
-#[derive(Debug, Drop)]
+#[derive(Drop)]
 pub(crate) enum Committed {
     /// It was refused with these tags.
     Refused(Tags),
@@ -66,34 +68,44 @@ impl Machine {
         requires lengths { list_any space_is_spent self.now.namespaces ≡ false }
         ensures { IfOk result (λ done. committed_of done ≡ with_file self.now moment home number missed.now names meta next) }
     {
-        let alloc = self.alloc();
         let told = self.names_in_view(home, number, names.as_slice())?;
-        let mut changes = folders(alloc, self.next.id, missed)?;
-        let change = Change::Put {
-            names: names.copy()?,
-            node: Node::File(meta.copy()?),
+        let machine = self.with_version(moment, number, missed, names, &meta, next)?;
+        Ok(Committed::Written(machine, Entry::File { names: told, meta }))
+    }
+
+    /// The machine with folders at the names that are missed, and with the version of a file at the names.
+    fn with_version(
+        &self,
+        moment: u64,
+        number: u64,
+        missed: &[Names],
+        names: Names,
+        meta: &FileMeta,
+        next: u64,
+    ) -> Result<Machine, NoMemory>
+        requires id { self.now.next.id < 2 ^ 62 }
+        requires rev { self.now.next.rev < 2 ^ 62 }
+        requires lengths { list_any space_is_spent self.now.namespaces ≡ false }
+        ensures { IfOk result (λ machine. machine ≡ record self.now {
+          namespaces = map (grown number (folders self.now.next.id missed.now ++ Put names (File meta.now) ∷ [])) self.now.namespaces;
+          revisions = self.now.revisions ++ record { ns = number; names = names; file = meta.now } ∷ [];
+          next = record self.now.next { rev = self.now.next.rev + 1; id = next };
+          moment = moment;
+        }) }
+    {
+        let changes = folders_and_file(self.alloc(), self.next.id, missed, &names, meta)?;
+        let next = Next {
+            rev: self.next.rev + 1,
+            id: next,
+            ..self.next
         };
-        changes.push(Shared::new(alloc, change)?)?;
-        let revision = Revision {
+        let mut machine = self.with_changes(moment, number, &changes, next)?;
+        machine.put_revision(Revision {
             ns: number,
             names,
             file: meta.copy()?,
-        };
-        let end = end_over(self.end, meta.pieces.as_slice());
-        let machine = Machine {
-            users: copy_all(alloc, &self.users)?,
-            namespaces: grow_all(alloc, &self.namespaces, number, &changes)?,
-            revisions: self.revisions.and(Shared::new(alloc, revision)?)?,
-            sessions: copy_all(alloc, &self.sessions)?,
-            next: Next {
-                rev: self.next.rev + 1,
-                id: next,
-                ..self.next
-            },
-            moment,
-            end,
-        };
-        Ok(Committed::Written(machine, Entry::File { names: told, meta }))
+        })?;
+        Ok(machine)
     }
 
     /// The machine with the file behind the folders that are missed above it.
@@ -160,24 +172,8 @@ impl Machine {
     {
         let told = self.names_in_view(home, number, names)?;
         let meta = meta.copy()?;
-        let Machine {
-            users,
-            namespaces,
-            revisions,
-            sessions,
-            next,
-            end,
-            ..
-        } = self.copy()?;
-        let machine = Machine {
-            users,
-            namespaces,
-            revisions,
-            sessions,
-            next,
-            moment,
-            end,
-        };
+        let mut machine = self.copy()?;
+        machine.moment = moment;
         Ok(Committed::Written(machine, Entry::File { names: told, meta }))
     }
 

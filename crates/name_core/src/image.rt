@@ -140,10 +140,12 @@ impl Image {
         ensures history { IfOk result (λ image. image.history ≡ self.now.history ++ cmd.now ∷ []) }
     {
         let alloc = machine.alloc();
+        let machine = Shared::new(alloc, machine)?;
+        let start = self.start.copy()?;
         let history = self.history.and(Shared::new(alloc, cmd.copy()?)?)?;
         Ok(Image {
-            start: self.start.copy()?,
-            machine: Shared::new(alloc, machine)?,
+            start,
+            machine,
             history,
         })
     }

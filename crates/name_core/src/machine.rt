@@ -1,5 +1,5 @@
 //! The plain machine over lists: one step is what the definition says.
-ghost use Rattle.std.specs.Prelude.{◌≡◌, ◌<◌, ◌^◌, ℕ, false, true, List, IfOk, Ok, Err, IsErrOf, map, flat_map, option_copied, find, ◌==◌};
+ghost use Rattle.std.specs.Prelude.{◌≡◌, ◌<◌, ◌≤◌, ◌^◌, ◌++◌, ◌∷◌, [], ℕ, false, true, List, IfOk, OnOk, Ok, Err, IsErrOf, length, map, flat_map, option_copied, find, ◌==◌};
 ghost use Rattle.std.specs.List.{list_all, list_any};
 ghost use Rattle.fh_model.specs.Rows.{rows_of, state_of_rows};
 ghost use Rattle.fh_model.specs.State.{opening, meta_of, revision_of, session_is_spent, user_of, home_of, token_user, has_token, tree_in, next_is_spent, space_is_spent, is_spent, grown};
@@ -13,6 +13,7 @@ ghost use Rattle.name_core.specs.Machine.{Does};
 
 use crate::RowsFault;
 use crate::chunks::Chunks;
+use crate::ends::end_over;
 use crate::nodes::kind_tag;
 use crate::places::{is_below_file, path_of};
 use crate::row_rules::{counters_in, first_bad};
@@ -29,7 +30,7 @@ use std::alloc::Global;
 use std::marker::Model;
 
 /// A state of the machine.
-#[derive(Debug, Drop)]
+#[derive(Drop)]
 pub(crate) struct Machine {
     pub(crate) users: Vec<Shared<User>>,
     pub(crate) namespaces: Vec<Shared<Space>>,
@@ -54,7 +55,7 @@ impl Model for Machine {
 }
 
 /// What a command was answered, with the next state where it enters.
-#[derive(Debug, Drop)]
+#[derive(Drop)]
 pub(crate) struct Done {
     pub(crate) next: Option<Machine>,
     pub(crate) reply: Reply,
@@ -139,12 +140,11 @@ impl Machine {
     {
         let users = copy_all(self.alloc(), &self.users)?;
         let namespaces = copy_all(self.alloc(), &self.namespaces)?;
-        let revisions = self.revisions.copy()?;
         let sessions = copy_all(self.alloc(), &self.sessions)?;
         Ok(Machine {
             users,
             namespaces,
-            revisions,
+            revisions: self.revisions.copy()?,
             sessions,
             next: self.next,
             moment: self.moment,
@@ -255,27 +255,56 @@ impl Machine {
         requires lengths { list_any space_is_spent self.now.namespaces ≡ false }
         ensures { IfOk result (λ done. Does (with_folders self.now moment home number missed.items names) self.now done.next done.reply) }
     {
-        let alloc = self.alloc();
         let told = self.names_in_view(home, number, names.as_slice())?;
         let id = self.next.id + missed.len() as u64;
         missed.push(names)?;
-        let changes = folders(alloc, self.next.id, &missed)?;
-        let next = Machine {
-            users: copy_all(alloc, &self.users)?,
-            namespaces: grow_all(alloc, &self.namespaces, number, &changes)?,
-            revisions: self.revisions.copy()?,
-            sessions: copy_all(alloc, &self.sessions)?,
-            next: Next {
-                id: id + 1,
-                ..self.next
-            },
-            moment,
-            end: self.end,
+        let changes = folders(self.alloc(), self.next.id, &missed)?;
+        let next = Next {
+            id: id + 1,
+            ..self.next
         };
         Ok(Done {
-            next: Some(next),
+            next: Some(self.with_changes(moment, number, &changes, next)?),
             reply: Reply::Entry(Entry::Folder { names: told, id }),
         })
+    }
+
+    /// The machine at a moment with more changes of a namespace, and with these numbers that come next.
+    pub(crate) fn with_changes(
+        &self,
+        moment: u64,
+        number: u64,
+        changes: &[Shared<Change>],
+        next: Next,
+    ) -> Result<Machine, NoMemory>
+        requires few { length changes.now ≤ 2 ^ 63 }
+        requires lengths { list_any space_is_spent self.now.namespaces ≡ false }
+        ensures { IfOk result (λ machine. machine ≡ record self.now { namespaces = map (grown number changes.now) self.now.namespaces; next = next; moment = moment }) }
+    {
+        let alloc = self.alloc();
+        let users = copy_all(alloc, &self.users)?;
+        let namespaces = grow_all(alloc, &self.namespaces, number, changes)?;
+        let sessions = copy_all(alloc, &self.sessions)?;
+        Ok(Machine {
+            users,
+            namespaces,
+            revisions: self.revisions.copy()?,
+            sessions,
+            next,
+            moment,
+            end: self.end,
+        })
+    }
+
+    /// Keeps one version more.
+    pub(crate) fn put_revision(&mut self, revision: Revision) -> Result<(), NoMemory>
+        ensures { OnOk result (self.new ≡ record self.old { revisions = self.old.revisions ++ revision ∷ [] }) }
+    {
+        let end = end_over(self.end, revision.file.pieces.as_slice());
+        let revision = Shared::new(self.alloc(), revision)?;
+        self.revisions = self.revisions.and(revision)?;
+        self.end = end;
+        Ok(())
     }
 
     /// The machine with a folder at the names and at those above that are missed.
@@ -480,7 +509,7 @@ fn grow(
 }
 
 /// The namespaces, where the one with this number has more changes.
-pub(crate) fn grow_all(
+fn grow_all(
     alloc: Global,
     spaces: &[Shared<Space>],
     number: u64,

@@ -1,7 +1,7 @@
 //! Values that are shared where they would be copied.
-ghost use Rattle.std.specs.Prelude.{◌≡◌, IfOk};
+ghost use Rattle.std.specs.Prelude.{◌≡◌, ◌++◌, ◌∷◌, [], IfOk};
 
-use fh_model::{Copies, NoMemory};
+use fh_model::{Copies, NoMemory, copy_all};
 use std::alloc::Global;
 use std::marker::Model;
 use std::ops::Deref;
@@ -9,7 +9,7 @@ use std::sync::Arc;
 
 /// A value that never changes and is one with its copies, so that a copy costs the same whatever the value is. Contracts
 /// see the value.
-#[derive(Debug, Drop)]
+#[derive(Drop)]
 pub(crate) struct Shared<T> {
     inner: Arc<T, Global>,
 }
@@ -31,6 +31,19 @@ impl<T: Drop> Shared<T> {
         let inner = Arc::new(alloc, value)?;
         Ok(Shared { inner })
     }
+}
+
+/// The items, and one more.
+pub(crate) fn copy_and<T: Copies + Drop>(
+    alloc: Global,
+    items: &[T],
+    item: T,
+) -> Result<Vec<T>, NoMemory>
+    ensures { IfOk result (λ more. more.items ≡ items.now ++ item ∷ []) }
+{
+    let mut more = copy_all(alloc, items)?;
+    more.push(item)?;
+    Ok(more)
 }
 
 impl<T> Deref for Shared<T> {

@@ -15,7 +15,7 @@ use std::marker::Model;
 const MEMBERS_SPENT_AT: usize = 1 << 31;
 
 /// A namespace beside the tree that its changes make. Contracts see the namespace.
-#[derive(Debug, Drop)]
+#[derive(Drop)]
 pub(crate) struct Space {
     number: u64,
     shared: bool,
@@ -48,12 +48,13 @@ impl Space {
     ) -> Result<Space, NoMemory>
         ensures { IfOk result (λ space. space ≡ record { number = number; shared = shared; floor = floor; changes = []; members = members }) }
     {
+        let members = Shared::new(alloc, members)?;
         Ok(Space {
             number,
             shared,
             floor,
             changes: Chunks::empty(alloc)?,
-            members: Shared::new(alloc, members)?,
+            members,
             tree: Vec::new(alloc),
         })
     }
@@ -99,13 +100,15 @@ impl Space {
         ensures { IfOk result (λ space. space ≡ record self.now { changes = self.now.changes ++ changes.now }) }
     {
         let alloc = *self.tree.allocator();
+        let tree = tree_after(alloc, self.tree(), changes)?;
+        let members = self.members.copy()?;
         Ok(Space {
             number: self.number,
             shared: self.shared,
             floor: self.floor,
             changes: self.changes.with(changes)?,
-            members: self.members.copy()?,
-            tree: tree_after(alloc, self.tree(), changes)?,
+            members,
+            tree,
         })
     }
 }

@@ -1,7 +1,8 @@
 //! How an upload becomes a file, or leaves its data in a session.
-ghost use Rattle.std.specs.Prelude.{◌≡◌, ◌<◌, ◌^◌, false, IfOk, List};
+ghost use Rattle.std.specs.Prelude.{◌≡◌, ◌<◌, ◌^◌, ◌+◌, ◌++◌, ◌∷◌, [], false, IfOk, OnOk, List};
 ghost use Rattle.std.specs.List.{list_any};
 ghost use Rattle.fh_model.specs.Content.{size_of};
+ghost use Rattle.fh_model.specs.Pieces.{numbered};
 ghost use Rattle.fh_model.specs.State.{space_is_spent, user_of};
 ghost use Rattle.fh_model.specs.Uploads.{session_of, upload, upload_pieces, with_session};
 ghost use Rattle.name_core.specs.Machine.{Does};
@@ -11,9 +12,7 @@ use crate::ends::end_over;
 use crate::files::{has_gap, numbered, pieces_of, size_of};
 use crate::machine::{Done, Machine};
 use crate::shared::Shared;
-use fh_model::{
-    Commit, Copies, Next, NoMemory, Piece, Pieces, Refusal, Reply, Session, Tags, User, copy_all,
-};
+use fh_model::{Commit, NoMemory, Piece, Pieces, Refusal, Reply, Session, Tags, User};
 
 impl Machine {
     /// A closed session that holds all the data.
@@ -32,6 +31,19 @@ impl Machine {
         })
     }
 
+    /// Keeps one session more, which holds these pieces.
+    fn put_session(&mut self, session: Session, pieces: &Pieces) -> Result<(), NoMemory>
+        requires session { self.old.next.session < 2 ^ 62 }
+        requires pieces { session.pieces ≡ numbered 0 pieces.now }
+        ensures { OnOk result (self.new ≡ record self.old { sessions = self.old.sessions ++ session ∷ []; next = record self.old.next { session = self.old.next.session + 1 } }) }
+    {
+        let session = Shared::new(self.alloc(), session)?;
+        self.sessions.push(session)?;
+        self.end = end_over(self.end, pieces.as_slice());
+        self.next.session += 1;
+        Ok(())
+    }
+
     /// The refusal of an upload, whose data is kept in a session.
     fn with_session(
         &self,
@@ -44,22 +56,10 @@ impl Machine {
         requires size { size_of pieces.now < 2 ^ 64 }
         ensures { IfOk result (λ done. Does (with_session self.now moment user pieces.now tags) self.now done.next done.reply) }
     {
-        let alloc = self.alloc();
-        let mut sessions = copy_all(alloc, &self.sessions)?;
         let session = self.session_of(user, moment, pieces)?;
-        sessions.push(Shared::new(alloc, session)?)?;
-        let next = Machine {
-            users: copy_all(alloc, &self.users)?,
-            namespaces: copy_all(alloc, &self.namespaces)?,
-            revisions: self.revisions.copy()?,
-            sessions,
-            next: Next {
-                session: self.next.session + 1,
-                ..self.next
-            },
-            moment,
-            end: end_over(self.end, pieces.as_slice()),
-        };
+        let mut next = self.copy()?;
+        next.put_session(session, pieces)?;
+        next.moment = moment;
         let refusal = Refusal {
             tags,
             session: Some(self.next.session),

@@ -1,5 +1,7 @@
 //! Where a path writes: the names as the tree shows them, and the folders that are missed above.
 ghost use Rattle.std.specs.Prelude.{◌≡◌, ◌+◌, ◌^◌, ◌≤◌, ◌++◌, ◌∷◌, [], true, IfOk, OnOk, Some, if◌then◌else◌, is_none, length, option_copied};
+ghost use Rattle.fh_model.specs.declared.changes.Change.TheVariants.{Put};
+ghost use Rattle.fh_model.specs.declared.changes.Node.TheVariants.{File};
 ghost use Rattle.fh_model.specs.Keys.{key_of};
 ghost use Rattle.fh_model.specs.Folders.{folders};
 ghost use Rattle.fh_model.specs.TreeOrder.{is_in_order};
@@ -10,7 +12,7 @@ use crate::machine::Machine;
 use crate::shared::Shared;
 use crate::trees::item_at;
 use fh_model::{
-    Change, Copies, Item, Items, Name, Names, NoMemory, Node, PathArg, Place, copy_all,
+    Change, Copies, FileMeta, Item, Items, Name, Names, NoMemory, Node, PathArg, Place, copy_all,
 };
 use std::alloc::Global;
 
@@ -92,6 +94,29 @@ pub(crate) fn folders(
         changes.push(Shared::new(alloc, change)?)?;
         next += 1;
     }
+    Ok(changes)
+}
+
+/// A folder at each of the places that are missed, with the ids from this one on, and the file at the names.
+pub(crate) fn folders_and_file(
+    alloc: Global,
+    id: u64,
+    missed: &[Names],
+    names: &Names,
+    meta: &FileMeta,
+) -> Result<Vec<Shared<Change>>, NoMemory>
+    requires { id + length missed.now ≤ 2 ^ 63 }
+    ensures { IfOk result (λ changes. changes.items ≡ folders id missed.now ++ Put names.now (File meta.now) ∷ []) }
+{
+    let names = names.copy()?;
+    let meta = meta.copy()?;
+    let change = Change::Put {
+        names,
+        node: Node::File(meta),
+    };
+    let change = Shared::new(alloc, change)?;
+    let mut changes = folders(alloc, id, missed)?;
+    changes.push(change)?;
     Ok(changes)
 }
 

@@ -1,11 +1,10 @@
 -- What one call of the port means for a request.
-use Rattle.std.proofs.Common.{◌≡◌, ℕ, ◌≤◌, List, [], ◌∷◌, ◌++◌, length, Bool, true, false, IsTrue, Option, None, Some, option_and_then, refl, sym, ◌∙◌, ap, subst, append-nil, arith}
+use Rattle.std.proofs.Common.{◌≡◌, ℕ, ◌≤◌, List, [], ◌∷◌, ◌++◌, length, Bool, true, false, IsTrue, Option, None, Some, option_and_then, refl, sym, ◌∙◌, ap, append-nil, arith}
 use Rattle.fh_model.specs.declared.commands.Act.{Act}
 use Rattle.fh_model.specs.declared.commands.Act.TheVariants.{MakeFolder, Upload}
 use Rattle.fh_model.specs.declared.commands.Cmd.{Cmd}
 use Rattle.fh_model.specs.declared.files.FileMeta.{FileMeta}
 use Rattle.fh_model.specs.declared.names.Name.{Name}
-use Rattle.fh_model.specs.declared.replies.Entry.TheVariants as entry
 use Rattle.fh_model.specs.declared.replies.Reply.{Reply}
 use Rattle.fh_model.specs.Content.{size_of}
 use Rattle.fh_model.specs.History.{Kept, state_of, state_after, with_more, next_of, reply_of, entered}
@@ -18,16 +17,17 @@ use Rattle.fh_model.proofs.Runs.{with_nothing, state_more, reply_more, next_more
 use Rattle.host_seat.specs.Port.{Commits, Looks, OthersEnter, OfBoth, KeepsPieces, PutsData, Leaves, placed_at}
 use Rattle.host_seat.proofs.PortLaws.{both_map, keeps_same}
 use Rattle.api_types.specs.declared.answer.Answer.{Answer}
-use Rattle.api_types.specs.declared.answer.Answer.TheVariants.{Plain}
 use Rattle.api_types.specs.declared.route.Route.{Route}
 use Rattle.session_rules.specs.Connection.{cmd_of, cmd_with, entered_by, put_by}
 use Rattle.session_rules.specs.Decisions.{Called, called, called_by, Decision, says, enters, loads, looks}
 use Rattle.session_rules.specs.Judged.{IsCalled}
-use Rattle.session_rules.specs.Replies.{Said, answered, answer_to, answer_to_look, head_of, load_of, pieces_in, said_by, size_in, text_of}
+use Rattle.session_rules.specs.Replies.{Said, answered, answer_to, answer_to_look, load_of, pieces_in, said_by, size_in, text_of}
 use Rattle.session_rules.specs.declared.deciding.Caller.TheVariants as caller
 use Rattle.session_rules.specs.declared.loading.Load.TheVariants as load
 use Rattle.session_rules.proofs.Blocks.{put_same}
-use Rattle.session_http.specs.Points.{Calls, Acts, Finds, Misses, IsStuck}
+use Rattle.session_http.specs.declared.answering.Answered.{Answered}
+use Rattle.session_http.specs.declared.answering.Answered.TheVariants.{Text, Content}
+use Rattle.session_http.specs.Points.{Calls, Acts, Answers, IsHeadOfFile, IsText, Misses, IsStuck}
 
 with_others : (old new : Kept) (others : List Cmd) → new ≡ with_more old others → new ≡ with_more old (others ++ [])
 with_others old new others e = e ∙ ap (with_more old) (sym (append-nil others))
@@ -38,22 +38,13 @@ pub calls_still : (alone : Bool) (admin : List ℕ) (old : Kept) (method target 
     → called admin (state_of old) method target token ≡ it → Calls alone admin old old method target token (Some it)
 calls_still alone admin old method target token it is = record { others = []; grown = with_nothing old; is = is; mine = λ _. refl }
 
-calls_looked : (alone : Bool) (admin : List ℕ) (old new image : Kept) (method target : List ℕ) (token : Option (List ℕ)) (it : Called)
-    → Looks alone old new image → called admin (state_of image) method target token ≡ it → Calls alone admin old new method target token (Some it)
-calls_looked alone admin old new image method target token it looked is = record {
-  others = looked.others;
-  grown = looked.grown;
-  is = ap (λ k. called admin (state_of k) method target token) (sym looked.shown) ∙ is;
-  mine = looked.mine;
-}
-
 -- the token is there, and the user is whose it is
-pub calls_bearer : (alone : Bool) (admin : List ℕ) (old new image : Kept) (method target : List ℕ) (token : Option (List ℕ)) (route : Route) (user : Option ℕ)
-    → Looks alone old new image → IsCalled (caller.Bearer route) (state_of image) token (called admin (state_of image) method target token)
-    → user ≡ option_and_then (token_user (state_of image)) token → Calls alone admin old new method target token (Some (called_by route user))
-calls_bearer alone admin old new image method target token route user looked by is =
-    let found : user ≡ token_user (state_of image) by.0 = is ∙ ap (option_and_then (token_user (state_of image))) by.1 in
-    calls_looked alone admin old new image method target token (called_by route user) looked (by.2 ∙ ap (called_by route) (sym found))
+pub calls_bearer : (alone : Bool) (admin : List ℕ) (old new : Kept) (method target : List ℕ) (token : Option (List ℕ)) (route : Route) (user : Option ℕ)
+    → OthersEnter alone old new → IsCalled (caller.Bearer route) (state_of new) token (called admin (state_of new) method target token)
+    → user ≡ option_and_then (token_user (state_of new)) token → Calls alone admin old new method target token (Some (called_by route user))
+calls_bearer alone admin old new method target token route user h by is =
+    let found : user ≡ token_user (state_of new) by.0 = is ∙ ap (option_and_then (token_user (state_of new))) by.1 in
+    record { others = h.others; grown = h.grown; is = by.2 ∙ ap (called_by route) (sym found); mine = h.mine }
 
 pub calls_missed : (alone : Bool) (admin : List ℕ) (old new : Kept) (method target : List ℕ) (token : Option (List ℕ)) → OthersEnter alone old new
     → Calls alone admin old new method target token None
@@ -77,7 +68,7 @@ put_both seat at s act bytes (Some b) None puts keeps = keeps
 
 -- ---- what is told
 
-pub acts_said : (alone : Bool) (seat at : ℕ) (old : Kept) (x : Option (List ℕ)) (it : Said) (close : Bool) (text : List ℕ) → text ≡ text_of it close
+acts_said : (alone : Bool) (seat at : ℕ) (old : Kept) (x : Option (List ℕ)) (it : Said) (close : Bool) (text : List ℕ) → text ≡ text_of it close
     → Acts alone seat at old old x x (says it) close text
 acts_said alone seat at old x it close text told = record {
   others = [];
@@ -89,66 +80,77 @@ acts_said alone seat at old x it close text told = record {
   puts = λ _. still (state_of old) x x (keeps_same (state_of old) x x refl);
 }
 
--- the machine that a look shows
-looked_state : (alone : Bool) (old new image : Kept) → (looked : Looks alone old new image) → state_of image ≡ state_after (state_of old) looked.others
-looked_state alone old new image looked = ap state_of (looked.shown ∙ looked.grown) ∙ state_more old looked.others
+-- a text is answered
+pub answers_text : (alone : Bool) (seat at : ℕ) (old new : Kept) (x y : Option (List ℕ)) (d : Decision) (close : Bool) (bytes : List ℕ)
+    → ((text : List ℕ) → text ≡ bytes → Acts alone seat at old new x y d close text) → (answered : Answered) → IsText bytes answered
+    → Answers alone seat at old new x y d close answered
+answers_text alone seat at old new x y d close bytes acts (Text text) is = acts text.items is
+answers_text alone seat at old new x y d close bytes acts (Content head rev count) is = absurd is
 
-pub acts_looked : (alone : Bool) (seat at : ℕ) (old new image : Kept) (x y : Option (List ℕ)) (user : ℕ) (path : List ℕ) (close : Bool) (text : List ℕ) (answer : Answer)
-    → Looks alone old new image → y ≡ x → answer ≡ answer_to_look (resolve (state_of image) user path) → text ≡ text_of (answered answer) close
-    → Acts alone seat at old new x y (looks user path) close text
-acts_looked alone seat at old new image x y user path close text answer looked same is told =
-    let state = looked_state alone old new image looked in
-    record {
-      others = looked.others;
-      says = told ∙ ap (λ a. text_of (answered a) close) (is ∙ ap (λ s. answer_to_look (resolve s user path)) state);
-      none = refl;
-      empty = refl;
-      grown = with_others old new looked.others looked.grown;
-      mine = looked.mine;
-      puts = λ _. still (state_of old) x y (keeps_same (state_of old) x y same);
-    }
+pub answers_said : (alone : Bool) (seat at : ℕ) (old : Kept) (x : Option (List ℕ)) (it : Said) (close : Bool) (answered : Answered) → IsText (text_of it close) answered
+    → Answers alone seat at old old x x (says it) close answered
+answers_said alone seat at old x it close answered is =
+    answers_text alone seat at old old x x (says it) close (text_of it close) (acts_said alone seat at old x it close) answered is
 
--- no content stands there
-pub acts_not_loaded : (alone : Bool) (seat at : ℕ) (old new image : Kept) (x y : Option (List ℕ)) (user : ℕ) (path : List ℕ) (close : Bool) (text : List ℕ) (answer : Answer)
-    → Looks alone old new image → y ≡ x → load.Answered answer ≡ load_of (resolve (state_of image) user path) → text ≡ text_of (answered answer) close
-    → Acts alone seat at old new x y (loads user path) close text
-acts_not_loaded alone seat at old new image x y user path close text answer looked same is told =
-    let state = looked_state alone old new image looked in
-    let there = is ∙ ap (λ s. load_of (resolve s user path)) state in
-    record {
-      others = looked.others;
-      says = told ∙ ap (λ l. text_of (said_by [] l) close) there;
-      none = sym (ap pieces_in there);
-      empty = sym (ap size_in there);
-      grown = with_others old new looked.others looked.grown;
-      mine = looked.mine;
-      puts = λ _. still (state_of old) x y (keeps_same (state_of old) x y same);
-    }
+-- what a look shows is behind what others entered
+pub others_looked : (alone : Bool) (old new image : Kept) → Looks alone old new image → OthersEnter alone old new
+others_looked alone old new image h = record { others = h.others; grown = h.grown; mine = h.mine }
 
--- a file does
-pub finds_file : (alone : Bool) (old new image : Kept) (user : ℕ) (path : List ℕ) (close : Bool) (head : List ℕ) (names : List Name) (meta : FileMeta) (count : ℕ)
-    → (looked : Looks alone old new image) → load.File names meta ≡ load_of (resolve (state_of image) user path) → IsKept (state_of image) meta
-    → meta.size ≡ size_of meta.pieces → head ≡ head_of (Plain (entry.File names meta)) meta.size close → count ≡ length meta.pieces
-    → Finds alone old new (loads user path) close head meta.rev count
-finds_file alone old new image user path close head names meta count looked is kept sized told counted =
-    let here : state_of image ≡ state_of new = ap state_of looked.shown in
-    let P : State → Type 0 = λ s. IsKept s meta in
+state_behind : (alone : Bool) (old new : Kept) → (h : OthersEnter alone old new) → state_of new ≡ state_after (state_of old) h.others
+state_behind alone old new h = ap state_of h.grown ∙ state_more old h.others
+
+module _ (alone : Bool) (seat at : ℕ) (old new : Kept) (x y : Option (List ℕ)) (user : ℕ) (path : List ℕ) (close : Bool) (h : OthersEnter alone old new) (same : y ≡ x) where
+  pub acts_looked : (text : List ℕ) (answer : Answer) → answer ≡ answer_to_look (resolve (state_of new) user path) → text ≡ text_of (answered answer) close
+      → Acts alone seat at old new x y (looks user path) close text
+  acts_looked text answer is told = record {
+    others = h.others;
+    says = told ∙ ap (λ a. text_of (answered a) close) (is ∙ ap (λ s. answer_to_look (resolve s user path)) (state_behind alone old new h));
+    none = refl;
+    empty = refl;
+    grown = with_others old new h.others h.grown;
+    mine = h.mine;
+    puts = λ _. still (state_of old) x y (keeps_same (state_of old) x y same);
+  }
+
+  -- no content stands there
+  pub acts_not_loaded : (text : List ℕ) (answer : Answer) → load.Answered answer ≡ load_of (resolve (state_of new) user path) → text ≡ text_of (answered answer) close
+      → Acts alone seat at old new x y (loads user path) close text
+  acts_not_loaded text answer is told =
+      let there = is ∙ ap (λ s. load_of (resolve s user path)) (state_behind alone old new h) in
+      record {
+        others = h.others;
+        says = told ∙ ap (λ l. text_of (said_by [] l) close) there;
+        none = sym (ap pieces_in there);
+        empty = sym (ap size_in there);
+        grown = with_others old new h.others h.grown;
+        mine = h.mine;
+        puts = λ _. still (state_of old) x y (keeps_same (state_of old) x y same);
+      }
+
+  -- a file does
+  pub answers_file : (answered : Answered) (names : List Name) (meta : FileMeta) → load.File names meta ≡ load_of (resolve (state_of new) user path)
+      → IsKept (state_of new) meta → meta.size ≡ size_of meta.pieces → IsHeadOfFile names meta close answered
+      → Answers alone seat at old new x y (loads user path) close answered
+  answers_file (Text text) names meta is kept sized head = absurd head
+  answers_file (Content head rev count) names meta is kept sized told = (
     record {
-      others = looked.others;
+      others = h.others;
       user = user;
       path = path;
       names = names;
       meta = meta;
       wanted = refl;
-      there = ap (λ s. load_of (resolve s user path)) (sym here) ∙ sym is;
-      kept = subst P here kept;
+      there = sym is;
+      kept = kept;
       sized = sized;
-      says = told;
-      rev_is = refl;
-      count_is = counted;
-      grown = looked.grown;
-      mine = looked.mine;
-    }
+      says = told.0;
+      rev_is = told.1;
+      count_is = told.2;
+      grown = h.grown;
+      mine = h.mine;
+    },
+    same,
+  )
 
 -- the command of an act with its data, in the state behind what others entered
 placed_more : (old : Kept) (others : List Cmd) (seat at : ℕ) (act : Act) (bytes : List ℕ)
@@ -217,11 +219,6 @@ misses_others alone seat at old new x y d h below = record {
 pub misses_waited : (alone : Bool) (seat at : ℕ) (old new : Kept) (x y : Option (List ℕ)) (d : Decision) → OthersEnter alone old new → y ≡ x
     → Misses alone seat at old new x y d
 misses_waited alone seat at old new x y d h same = misses_others alone seat at old new x y d h (λ _. keeps_same (state_of old) x y same)
-
-pub misses_looked : (alone : Bool) (seat at : ℕ) (old new image : Kept) (x y : Option (List ℕ)) (d : Decision) → Looks alone old new image → y ≡ x
-    → Misses alone seat at old new x y d
-misses_looked alone seat at old new image x y d h same =
-    misses_waited alone seat at old new x y d (record { others = h.others; grown = h.grown; mine = h.mine }) same
 
 -- ---- where the disk failed
 

@@ -1,5 +1,5 @@
 -- A body has no more bytes than its limit, so that no count of portions comes to its end.
-use Rattle.std.proofs.Common.{◌≡◌, ℕ, ◌+◌, ◌-◌, ◌<◌, ◌≤◌, ◌^◌, Bool, true, false, IsTrue, if◌then◌else◌, nat_le, List, length, Option, Some, None, refl, arith}
+use Rattle.std.proofs.Common.{◌≡◌, ℕ, ◌+◌, ◌-◌, ◌≤◌, ◌^◌, Bool, true, false, if◌then◌else◌, nat_le, List, length, Option, Some, None, refl, arith}
 use Rattle.std.proofs.lemmas.Bool.{leb-true}
 use Rattle.http_in.specs.declared.head.Length.{Length}
 use Rattle.http_in.specs.declared.head.Length.TheVariants.{Absent, Known, Chunked}

@@ -1,6 +1,7 @@
 -- What was heard of a request and what the port did for it make its turn, whatever became of it.
-use Rattle.std.proofs.Common.{◌≡◌, ℕ, ◌+◌, ◌<◌, ◌≤◌, ◌||◌, ◌==◌, List, [], ◌∷◌, ◌++◌, All, length, Option, Some, IfSome, Bool, true, false, not, IsTrue, refl, sym, ◌∙◌, ap, subst, append-nil, inl, Err, IsErrOf}
+use Rattle.std.proofs.Common.{◌≡◌, ℕ, ◌+◌, ◌<◌, ◌≤◌, ◌||◌, ◌==◌, List, [], ◌∷◌, ◌++◌, All, length, Option, Some, IfSome, Bool, true, false, not, IsTrue, Result, Ok, Err, IfErr, OnErr, OnOk, IsErrOf, refl, sym, ◌∙◌, ap, subst, append-nil, arith, inl}
 use Rattle.std.specs.Io.KnownBytes.{append_known, prepend_known}
+use Rattle.fh_world.specs.Bytes.{Holds}
 use Rattle.fh_world.specs.Causes.{Rose}
 use Rattle.fh_model.specs.declared.commands.Cmd.{Cmd}
 use Rattle.fh_model.specs.declared.files.FileMeta.{FileMeta}
@@ -24,18 +25,34 @@ use Rattle.session_rules.specs.declared.loading.Load.{Load}
 use Rattle.session_rules.specs.declared.loading.Load.TheVariants as load
 use Rattle.session_http.specs.Ends.{AsksBehind, AsksFor, IsPart, Served}
 use Rattle.session_http.specs.Points.{Acts, Finds, Misses, IsStuck}
-use Rattle.session_http.specs.Sending.{Fetches}
-use Rattle.session_http.specs.Steps.{GoesOn, Hears}
+use Rattle.session_rules.proofs.Blocks.{first_lie, pieces_lie}
+use Rattle.session_http.specs.Sending.{BreaksOff, Fetches, IsCause, SendsOn}
+use Rattle.session_http.specs.Steps.{Breaks, GoesOn, Hears, IsServed}
 use Rattle.session_http.specs.Talk.{Terms, Moment, IsWhole, desk, first}
 use Rattle.session_http.specs.declared.bodies.Body.{Body}
+use Rattle.session_http.specs.declared.conn.ConnEnd.{ConnEnd}
 use Rattle.session_http.specs.declared.conn.ConnEnd.TheVariants.{DiskFault, WriteFault}
-use Rattle.session_http.proofs.Ones.{Stays, Tells, turned_by, broken_by}
+use Rattle.session_http.proofs.Ones.{Stays, Tells, turned_by, broken_by, broken_off_by, cause_since}
 use Rattle.session_http.proofs.Points.{turn_of, told_same, fact_same, grown_turn, blocks_turn, decision_same, state_mid}
 use Rattle.session_http.proofs.Serves.{serve_none}
 use Rattle.session_http.proofs.Talks.{below_nothing}
 
 pub memory_is_no_disk : {T : Type 0} (f : CommitFault) → f ≡ fault.NoMemory → IsErrOf {T = T} (Err f) fault.Disk → ⊥
 memory_is_no_disk f is e = cc
+
+-- the moments before and behind a write, or a few of them, are those of the sink then
+pub record OfSink {K : Type 0} (held : K → Option (List ℕ)) (faults : K → ℕ) (a b : K) (mid new : Moment) : Type 0 where
+  pub held_old : mid.held ≡ held a
+  pub held_new : new.held ≡ held b
+  pub faults_old : mid.write_faults ≡ faults a
+  pub faults_new : new.write_faults ≡ faults b
+
+module _ {K : Type 0} (held : K → Option (List ℕ)) (faults : K → ℕ) (a b : K) (mid new : Moment) (of : OfSink held faults a b mid new) where
+  wrote_of : (text : List ℕ) → Holds held a b text → new.held ≡ append_known mid.held text
+  wrote_of text wrote = of.held_new ∙ wrote ∙ ap (λ o. append_known o text) (sym of.held_old)
+
+  rose_of : Rose (faults a) (faults b) → Rose mid.write_faults new.write_faults
+  rose_of rose = omega (arith, rose, of.faults_old, of.faults_new)
 
 -- no content was broken off in it
 pub record TellsWhole (t : Terms) (old new : Moment) (asked : Request) (text : List ℕ) : Type 0 where
@@ -119,6 +136,20 @@ module _ (t : Terms) (old mid new : Moment) (call : Option Called) (last : Bool)
   pub breaks_by : Stays mid new → (text : List ℕ) → TellsWhole t old new h.asked text → (part : List ℕ) → IsPart text part
       → new.held ≡ append_known mid.held part → Rose mid.write_faults new.write_faults → old.count < 1000000 → Served t old new WriteFault
   breaks_by stays text tells part some wrote rose few = broken_by t old mid new call last arg body kept h stays text tells.tells part some wrote rose few
+
+  pub few_before : mid.count < 1000000 → old.count < 1000000
+  few_before few = omega (arith, few, h.passes.count)
+
+  -- its reply was written by this call, or not whole
+  pub serves_by : {K X : Type 0} (held : K → Option (List ℕ)) (faults : K → ℕ) (a b : K) → OfSink held faults a b mid new → Stays mid new
+      → (text : List ℕ) → TellsWhole t old new h.asked text → mid.count < 1000000 → (r : Result X ConnEnd)
+      → OnOk r (Holds held a b text) → OnErr r (Breaks held faults a b text) → IfErr r (λ end. end ≡ WriteFault) → IsServed t old new last r
+  serves_by held faults a b of stays text tells few (Ok value) wrote broke is =
+      goes_by stays text tells (wrote_of held faults a b mid new of text wrote) (not last) refl
+  serves_by held faults a b of stays text tells few (Err end) wrote broke is =
+      let Q : ConnEnd → Type 0 = λ end. Served t old new end in
+      subst Q (sym is) (breaks_by stays text tells broke.part broke.some (wrote_of held faults a b mid new of broke.part broke.wrote)
+      (rose_of held faults a b mid new of broke.rose) (few_before few))
 
 -- a content is told by its own text, and nothing enters with it
 pub record IsSent (kind : Kind) : Type 0 where
@@ -361,6 +392,25 @@ module _ (t : Terms) (old mid new : Moment) (it : Called) (last : Bool) (arg : O
     pub content_as : IfSome t.second (λ s. at ≡ s) → close ≡ closes (old.count + 1) h.asked.head → TellsAs t old new h.asked (head ++ sent) kind finds.meta
     unfolding tells_content
     content_as timed is = record { tells = tells_content timed is; kind_is = refl; asks = asks_content }
+
+  -- the content was sent by this call, or broken off
+  pub serves_content : {K X : Type 0} (held : K → Option (List ℕ)) (sink_faults : K → ℕ) (a b : K) → OfSink held sink_faults a b mid new → (at : ℕ) (close : Bool) (head : List ℕ) (rev count : ℕ) (seen : Kept) (blocks : Option (List ℕ)) (faults : ℕ)
+      → (finds : Finds t.alone mid.seen seen wanted close head rev count) → blocks ≡ mid.blocks → mid.port_faults ≤ faults → Stays mid new → IfSome t.second (λ s. at ≡ s)
+      → close ≡ closes (old.count + 1) h.asked.head → mid.count < 1000000 → (r : Result X ConnEnd)
+      → OnOk r (SendsOn t.alone seen new.seen blocks new.blocks held a b head finds.meta.pieces)
+      → IfErr r (λ end. BreaksOff end t.alone seen new.seen blocks new.blocks held a b head finds.meta.pieces)
+      → IfErr r (λ end. IsCause end faults new.port_faults mid.write_faults new.write_faults) → IsServed t old new last r
+  serves_content held sink_faults a b of at close head rev count seen blocks faults finds same later stays timed is few (Ok value) sends broke cause =
+      let tells = content_as at close head rev count seen blocks finds same told sent_told sends.sent sends.fetches (pieces_lie (state_of seen) finds.meta finds.kept) timed is in
+      goes_by t old mid new (Some it) last arg body kept h stays (head ++ sends.sent) (as_whole t old new h.asked (head ++ sends.sent) finds.meta tells)
+      (wrote_of held sink_faults a b mid new of (head ++ sends.sent) sends.wrote) (not last) refl
+  serves_content held sink_faults a b of at close head rev count seen blocks faults finds same later stays timed is few (Err end) sends off cause =
+      let tells = content_as at close head rev count seen blocks finds same (broken_off off.count) (sent_off off.count) off.sent off.fetches
+      (first_lie (state_of seen) finds.meta off.count finds.kept) timed is in
+      broken_off_by t old mid new (Some it) last arg body kept h stays (head ++ off.sent) tells.tells off.count tells.kind_is finds.meta tells.asks
+      off.part off.some (wrote_of held sink_faults a b mid new of off.part off.wrote)
+      (few_before t old mid new (Some it) last arg body kept h few) end off.fewer
+      (cause_since end mid.port_faults faults new.port_faults mid.write_faults new.write_faults later cause)
 
   -- ---- the disk failed as its command was to enter
 

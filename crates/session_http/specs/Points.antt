@@ -102,6 +102,17 @@ pub record Finds (alone : Bool) (old new : Kept) (d : Decision) (close : Bool) (
   pub grown : new ≡ with_more old others
   pub mine : IsTrue alone → others ≡ []
 
+-- this text
+abbrev pub IsText : List ℕ → Answered → Type 0
+IsText bytes (Text text) = text.items ≡ bytes
+IsText bytes (Content head rev count) = ⊥
+
+-- the head of the reply that sends this file, its rev, and how many blocks it has
+abbrev pub IsHeadOfFile : List Name → FileMeta → Bool → Answered → Type 0
+IsHeadOfFile names meta close (Text text) = ⊥
+IsHeadOfFile names meta close (Content head rev count) =
+    (head.items ≡ head_of (Plain (entry.File names meta)) meta.size close) × (rev ≡ meta.rev) × (count ≡ length meta.pieces)
+
 -- what a request that came to this decision is answered: a text, or the content of a file
 abbrev pub Answers : Bool → ℕ → ℕ → Kept → Kept → Option (List ℕ) → Option (List ℕ) → Decision → Bool → Answered → Type 0
 Answers alone seat at old new before after d close (Text text) = Acts alone seat at old new before after d close text.items

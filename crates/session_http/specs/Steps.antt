@@ -1,5 +1,5 @@
 -- What the steps of serving one request leave.
-use Rattle.std.specs.Prelude.{ℕ, ◌≡◌, ◌≤◌, ◌⊎◌, List, [], ◌∷◌, ◌++◌, Option, IfSome, Bool, IsTrue, true, not}
+use Rattle.std.specs.Prelude.{ℕ, ◌≡◌, ◌≤◌, ◌⊎◌, List, [], ◌∷◌, ◌++◌, Option, IfSome, Result, Ok, Err, Bool, IsTrue, true, not}
 use Rattle.std.specs.Io.KnownBytes.{IsAtEnd, append_known, prepend_known}
 use Rattle.httparse.specs.Grammar.{RequestHead}
 use Rattle.fh_world.specs.Bytes.{Holds}
@@ -20,7 +20,7 @@ use Rattle.session_rules.specs.Replies.{Said, text_of, out_of_memory}
 use Rattle.session_http.specs.Begun.{IsBegun, IsCutShort, IsGreeted, IsOpened}
 use Rattle.session_http.specs.Bodies.{GoneOnlyFor, Holds as HoldsContent}
 use Rattle.session_http.specs.declared.bodies.Body.{Body}
-use Rattle.session_http.specs.Ends.{IsLastText, IsPart}
+use Rattle.session_http.specs.Ends.{IsLastText, IsPart, Served}
 use Rattle.session_http.specs.Points.{is_called}
 use Rattle.session_http.specs.Talk.{Terms, Moment, Talk, Stored, IsWhole, replies}
 use Rattle.session_http.specs.declared.conn.ConnEnd.{ConnEnd}
@@ -63,6 +63,11 @@ pub record GoesOn (t : Terms) (old new : Moment) (goes : Bool) : Type 0 where
   pub turn : Turn
   pub turned : Turned t old new turn
   pub asked : asks_last turn.asked.head ≡ not goes
+
+-- it was served, and the connection goes on as it asked, or it ended so
+abbrev pub IsServed : {X : Type 0} → Terms → Moment → Moment → Bool → Result X ConnEnd → Type 0
+IsServed t old new last (Ok value) = GoesOn t old new (not last)
+IsServed t old new last (Err end) = Served t old new end
 
 -- Reading the next request stopped. Others entered meanwhile, `rest` was read of it, and `part` was written for it.
 abbrev pub StopsBy : ConnEnd → List Cmd → List ℕ → List ℕ → Moment → Moment → Type 0

@@ -1,24 +1,30 @@
 //! Answers a request that was read whole.
-ghost use Rattle.std.specs.Prelude.{◌≡◌, ◌≤◌, ◌+◌, [], length, List, ℕ, None, true, IfOk, IfSome, OnErr, IsErrOf, option_map};
+ghost use Rattle.std.specs.Prelude.{◌≡◌, ◌≤◌, ◌+◌, ◌∷◌, [], length, List, ℕ, None, true, IsTrue, IfOk, IfSome, OnOk, OnErr, IsErrOf, option_map};
+ghost use Rattle.cmd_codec.specs.Commands.{HasSpelling};
 ghost use Rattle.fh_world.specs.Causes.{Rose};
-ghost use Rattle.fh_model.specs.Content.{IsDigestOf};
 ghost use Rattle.fh_model.specs.declared.limits.TheConstants.{BLOCK_BYTES};
+ghost use Rattle.fh_model.specs.declared.replies.Reply.{Reply};
+ghost use Rattle.fh_model.specs.Content.{IsDigestOf};
+ghost use Rattle.fh_model.specs.History.{state_of};
 ghost use Rattle.api_types.specs.Routes.{has_content};
-ghost use Rattle.host_seat.specs.Port.{Leaves, OthersEnter};
+ghost use Rattle.host_seat.specs.Port.{Commits, KeepsPieces, Leaves, OthersEnter, PutsData, placed_at};
+ghost use Rattle.session_rules.specs.Connection.{cmd_of};
 ghost use Rattle.session_rules.specs.Decisions.{argued, decided, enters, loads, looks};
 ghost use Rattle.session_rules.specs.Judged.{IsBody};
+ghost use Rattle.session_rules.specs.Replies.{answer_to, answered, text_of};
 ghost use Rattle.session_http.specs.Bodies.{Holds};
-ghost use Rattle.session_http.specs.Points.{Acts, Answers, Calls, Misses, called_as, called_if, IsStuck};
+ghost use Rattle.session_http.specs.Points.{Answers, Calls, IsHeadOfFile, IsStuck, IsText, Misses, called_as, called_if};
 
 use crate::bodies::Body;
-use api_types::Route;
+use crate::finding::{find_answer, find_load, find_user};
+use api_types::{Answer, Route};
 use cmd_codec::has_spelling;
-use fh_model::{Act, Bytes32, Cmd, LAST_SECOND, NoMemory, Text};
+use fh_model::{Act, Bytes32, Cmd, FileMeta, LAST_SECOND, Names, NoMemory, Text};
 use host_seat::{CommitFault, Port};
 use http_in::Head;
 use session_rules::{
     Caller, HeadFault, Load, Wish, act_answer, answer_reply, call_of, complaint_reply, fault_reply,
-    form_of, load_head, load_of, look_answer, user_of, wish_of,
+    form_of, load_head, wish_of,
 };
 use std::alloc::Global;
 
@@ -52,78 +58,131 @@ pub(crate) fn find_caller<P: Port>(
     match call_of(admin, head) {
         Caller::Refused(fault) => Ok(Err(fault)),
         Caller::User(route, user) => Ok(Ok((route, user))),
-        Caller::Bearer(route) => {
-            let image = match port.look() {
-                Ok(image) => image,
-                Err(NoMemory) => return Err(NoMemory),
-            };
-            match user_of(&image, head) {
-                Some(user) => Ok(Ok((route, user))),
-                None => Ok(Err(HeadFault::NoToken)),
-            }
-        }
+        Caller::Bearer(route) => match find_user(port, head) {
+            Ok(Some(user)) => Ok(Ok((route, user))),
+            Ok(None) => Ok(Err(HeadFault::NoToken)),
+            Err(NoMemory) => Err(NoMemory),
+        },
     }
 }
 
+/// A reply that is a text, where memory served for it.
+fn told(reply: Result<Vec<u8>, NoMemory>) -> Result<Answered, CommitFault>
+    ensures text { (bytes : List ℕ) → IfOk reply (λ text. text.items ≡ bytes) → IfOk result (IsText bytes) }
+    ensures quiet { ¬ IsErrOf result CommitFault.Disk }
+{
+    match reply {
+        Ok(text) => Ok(Answered::Text(text)),
+        Err(NoMemory) => Err(CommitFault::NoMemory),
+    }
+}
+
+/// The reply that tells an answer.
+fn tell(alloc: Global, answer: Answer, close: bool) -> Result<Answered, CommitFault>
+    ensures text { IfOk result (IsText (text_of (answered answer) close)) }
+    ensures quiet { ¬ IsErrOf result CommitFault.Disk }
+{
+    told(answer_reply(alloc, &answer, close))
+}
+
 /// Looks a path up, and gives the reply.
-#[tactic(auto, using(crate::proofs::Callers::acts_looked, crate::proofs::Callers::misses_others, crate::proofs::Callers::misses_looked))]
+#[tactic(auto, using(crate::proofs::Callers::misses_waited))]
 fn look<P: Port>(
     alloc: Global,
     port: &mut P,
     user: u64,
     path: &Text,
     close: bool,
-) -> Result<Vec<u8>, NoMemory>
-    ensures ok { (seat at : ℕ) → IfOk result (λ text. Acts P.alone seat at (P.seen port.old) (P.seen port.new) (P.blocks port.old) (P.blocks port.new) (looks user path.now) close text.items) }
-    ensures err { (seat at : ℕ) → OnErr result (Misses P.alone seat at (P.seen port.old) (P.seen port.new) (P.blocks port.old) (P.blocks port.new) (looks user path.now)) }
+) -> Result<Answered, CommitFault>
+    ensures ok { (seat at : ℕ) → IfOk result (λ answered. Answers P.alone seat at (P.seen port.old) (P.seen port.new) (P.blocks port.old) (P.blocks port.new) (looks user path.now) close answered) }
+    ensures memory { (seat at : ℕ) → IsErrOf result CommitFault.NoMemory → Misses P.alone seat at (P.seen port.old) (P.seen port.new) (P.blocks port.old) (P.blocks port.new) (looks user path.now) }
+    ensures quiet { ¬ IsErrOf result CommitFault.Disk }
     ensures waits { P.waits port.new ≡ P.waits port.old }
     ensures number { P.number port.new ≡ P.number port.old }
     ensures faults { P.faults port.new ≡ P.faults port.old }
     ensures went { P.went port.old port.new }
 {
-    let image = port.look()?;
-    let answer = look_answer(alloc, &image, user, path)?;
-    let text = answer_reply(alloc, &answer, close)?;
-    Ok(text)
+    match find_answer(alloc, port, user, path) {
+        Ok(answer) => tell(alloc, answer, close),
+        Err(NoMemory) => Err(CommitFault::NoMemory),
+    }
+}
+
+/// The head of the reply that sends a file, and what its content is fetched by.
+fn head_of_file(
+    alloc: Global,
+    names: Names,
+    meta: FileMeta,
+    close: bool,
+) -> Result<Answered, CommitFault>
+    ensures file { IfOk result (λ answered. IsHeadOfFile names meta close answered) }
+    ensures quiet { ¬ IsErrOf result CommitFault.Disk }
+{
+    let rev = meta.rev;
+    // No file has 2^32 blocks, which would be 16 PiB.
+    let Ok(count) = u32::try_from(meta.pieces.as_slice().len()) else {
+        return Err(CommitFault::NoMemory);
+    };
+    let head = load_head(alloc, names, meta, close)?;
+    Ok(Answered::Content { head, rev, count })
 }
 
 /// Looks a path up whose content is asked for, and gives the head of the reply, or the whole of it where there is no
 /// content.
+#[tactic(auto, using(crate::proofs::Callers::misses_waited))]
 fn load<P: Port>(
     alloc: Global,
     port: &mut P,
     user: u64,
     path: &Text,
     close: bool,
-) -> Result<Answered, NoMemory>
+) -> Result<Answered, CommitFault>
     ensures ok { (seat at : ℕ) → IfOk result (λ answered. Answers P.alone seat at (P.seen port.old) (P.seen port.new) (P.blocks port.old) (P.blocks port.new) (loads user path.now) close answered) }
-    ensures err { (seat at : ℕ) → OnErr result (Misses P.alone seat at (P.seen port.old) (P.seen port.new) (P.blocks port.old) (P.blocks port.new) (loads user path.now)) }
+    ensures memory { (seat at : ℕ) → IsErrOf result CommitFault.NoMemory → Misses P.alone seat at (P.seen port.old) (P.seen port.new) (P.blocks port.old) (P.blocks port.new) (loads user path.now) }
+    ensures quiet { ¬ IsErrOf result CommitFault.Disk }
     ensures waits { P.waits port.new ≡ P.waits port.old }
     ensures number { P.number port.new ≡ P.number port.old }
     ensures faults { P.faults port.new ≡ P.faults port.old }
     ensures went { P.went port.old port.new }
 {
-    let image = port.look()?;
-    let load = load_of(alloc, &image, user, path)?;
-    match load {
-        Load::Answered(answer) => {
-            let text = answer_reply(alloc, &answer, close)?;
-            Ok(Answered::Text(text))
-        }
-        Load::File { names, meta } => {
-            let rev = meta.rev;
-            // No file has 2^32 blocks, which would be 16 PiB.
-            let Ok(count) = u32::try_from(meta.pieces.as_slice().len()) else {
-                return Err(NoMemory);
-            };
-            let head = load_head(alloc, names, meta, close)?;
-            Ok(Answered::Content { head, rev, count })
-        }
+    match find_load(alloc, port, user, path) {
+        Ok(Load::Answered(answer)) => tell(alloc, answer, close),
+        Ok(Load::File { names, meta }) => head_of_file(alloc, names, meta, close),
+        Err(NoMemory) => Err(CommitFault::NoMemory),
     }
 }
 
+/// Lets the command of an act enter with these data, and gives what is told of it.
+fn commit<P: Port>(
+    port: &mut P,
+    at: u64,
+    act: Act,
+    bytes: &[u8],
+    digest: Option<Bytes32>,
+) -> Result<Answer, CommitFault>
+    requires spelled { HasSpelling (record { seat = P.number port.old; at = at; act = act }) }
+    requires few { length bytes.now ≤ BLOCK_BYTES }
+    requires digest { IsDigestOf bytes.now digest }
+    ensures point { IfOk result (λ answer. (reply : Reply) × Commits P.alone (P.seen port.old) (P.seen port.new) (cmd_of (P.number port.old) at act) bytes.now reply × (answer ≡ answer_to act reply)) }
+    ensures settled { OnOk result (Leaves (P.waits port.old) [] (P.waits port.new)) }
+    ensures fault { OnErr result (OthersEnter P.alone (P.seen port.old) (P.seen port.new)) }
+    ensures disk { IsErrOf result CommitFault.Disk → Rose (P.faults port.old) (P.faults port.new) × Leaves (P.waits port.old) (placed_at (P.seen port.old) bytes.now (cmd_of (P.number port.old) at act) ∷ []) (P.waits port.new) }
+    ensures memory { IsErrOf result CommitFault.NoMemory → Leaves (P.waits port.old) [] (P.waits port.new) }
+    ensures stored { OnOk result (IsTrue P.alone → PutsData (state_of (P.seen port.old)) (cmd_of (P.number port.old) at act) bytes.now (P.blocks port.old) (P.blocks port.new)) }
+    ensures below { IsTrue P.alone → KeepsPieces (state_of (P.seen port.old)) (P.blocks port.old) (P.blocks port.new) }
+    ensures number { P.number port.new ≡ P.number port.old }
+    ensures later { P.faults port.old ≤ P.faults port.new }
+    ensures told { ¬ IsErrOf result CommitFault.Disk → P.faults port.new ≡ P.faults port.old }
+    ensures once { P.faults port.new ≤ P.faults port.old + 1 }
+    ensures went { P.went port.old port.new }
+{
+    let form = form_of(&act);
+    let reply = port.commit(at, act, bytes, digest)?;
+    Ok(act_answer(form, reply))
+}
+
 /// Lets the command of an act enter with these data, and gives the reply.
-#[tactic(auto, using(crate::proofs::Callers::acts_entered, crate::proofs::Callers::misses_still, crate::proofs::Callers::misses_others, crate::proofs::Callers::misses_entered, crate::proofs::Callers::stuck_at))]
+#[tactic(auto, using(crate::proofs::Callers::misses_still, crate::proofs::Callers::misses_others, crate::proofs::Callers::stuck_at))]
 fn enter<P: Port>(
     alloc: Global,
     port: &mut P,
@@ -132,11 +191,11 @@ fn enter<P: Port>(
     bytes: &[u8],
     digest: Option<Bytes32>,
     close: bool,
-) -> Result<Vec<u8>, CommitFault>
+) -> Result<Answered, CommitFault>
     requires second { at ≤ LAST_SECOND }
     requires few { length bytes.now ≤ BLOCK_BYTES }
     requires digest { IsDigestOf bytes.now digest }
-    ensures ok { IfOk result (λ text. Acts P.alone (P.number port.old) at (P.seen port.old) (P.seen port.new) (P.blocks port.old) (P.blocks port.new) (enters act bytes.now) close text.items) }
+    ensures ok { IfOk result (λ answered. Answers P.alone (P.number port.old) at (P.seen port.old) (P.seen port.new) (P.blocks port.old) (P.blocks port.new) (enters act bytes.now) close answered) }
     ensures memory { IsErrOf result CommitFault.NoMemory → Misses P.alone (P.number port.old) at (P.seen port.old) (P.seen port.new) (P.blocks port.old) (P.blocks port.new) (enters act bytes.now) }
     ensures disk { IsErrOf result CommitFault.Disk → IsStuck P.alone (P.number port.old) at (P.seen port.old) (P.seen port.new) (P.blocks port.old) (P.blocks port.new) (P.waits port.old) (P.waits port.new) (enters act bytes.now) × Rose (P.faults port.old) (P.faults port.new) }
     ensures waits { (IsErrOf result CommitFault.Disk → ⊥) → Leaves (P.waits port.old) [] (P.waits port.new) }
@@ -152,11 +211,10 @@ fn enter<P: Port>(
         return Err(CommitFault::NoMemory);
     }
     let Cmd { act, .. } = cmd;
-    let form = form_of(&act);
-    let reply = port.commit(at, act, bytes, digest)?;
-    let answer = act_answer(form, reply);
-    let text = answer_reply(alloc, &answer, close)?;
-    Ok(text)
+    match commit(port, at, act, bytes, digest) {
+        Ok(answer) => tell(alloc, answer, close),
+        Err(fault) => Err(fault),
+    }
 }
 
 /// Does what the argument asks for, for a user who calls a route, and gives the reply. Only a content may not be at hand.
@@ -183,32 +241,20 @@ fn carry_out<P: Port>(
     ensures went { P.went port.old port.new }
 {
     let (route, user) = caller;
-    match wish_of(alloc, route, user, arg, body)? {
-        Wish::Refused(text) => {
-            let text = complaint_reply(alloc, &text, close)?;
-            Ok(Answered::Text(text))
-        }
-        Wish::Answered(answer) => {
-            let text = answer_reply(alloc, &answer, close)?;
-            Ok(Answered::Text(text))
-        }
-        Wish::Enter { act, digest } => {
+    match wish_of(alloc, route, user, arg, body) {
+        Ok(Wish::Refused(text)) => told(complaint_reply(alloc, &text, close)),
+        Ok(Wish::Answered(answer)) => tell(alloc, answer, close),
+        Ok(Wish::Enter { act, digest }) => {
             // An act whose content isn't at hand was answered that it is too large.
             let Some(body) = body else {
                 return Err(CommitFault::NoMemory);
             };
             let data = act.data_in(body);
-            let text = enter(alloc, port, at, act, data, digest, close)?;
-            Ok(Answered::Text(text))
+            enter(alloc, port, at, act, data, digest, close)
         }
-        Wish::Look { user, path } => {
-            let text = look(alloc, port, user, &path, close)?;
-            Ok(Answered::Text(text))
-        }
-        Wish::Load { user, path } => {
-            let answered = load(alloc, port, user, &path, close)?;
-            Ok(answered)
-        }
+        Ok(Wish::Look { user, path }) => look(alloc, port, user, &path, close),
+        Ok(Wish::Load { user, path }) => load(alloc, port, user, &path, close),
+        Err(NoMemory) => Err(CommitFault::NoMemory),
     }
 }
 
@@ -236,10 +282,7 @@ pub(crate) fn respond<P: Port>(
 {
     let caller = match call {
         Ok(caller) => caller,
-        Err(fault) => {
-            let text = fault_reply(alloc, fault, close)?;
-            return Ok(Answered::Text(text));
-        }
+        Err(fault) => return told(fault_reply(alloc, fault, close)),
     };
     let (body, kept) = taken;
     match body {

@@ -10,6 +10,7 @@
 mod answering;
 mod bodies;
 mod conn;
+mod finding;
 mod receiving;
 mod sending;
 mod serving;

@@ -1,5 +1,5 @@
 -- What putting a command's data makes of a store.
-use Rattle.std.proofs.Common.{◌≡◌, ◌≢◌, ℕ, ◌+◌, ◌≤◌, ◌<◌, ◌^◌, List, [], ◌∷◌, ◌++◌, length, take, drop, Option, None, refl, sym, ◌∙◌, ap, subst, arith, length-append, take-append-drop}
+use Rattle.std.proofs.Common.{◌≡◌, ◌≢◌, ℕ, ◌+◌, ◌≤◌, ◌<◌, ◌^◌, List, [], ◌∷◌, ◌++◌, length, take, drop, Option, sym, ◌∙◌, ap, arith, length-append, take-append-drop}
 use Rattle.std.proofs.lemmas.List.{drop-take, take-take, length-take-le}
 use Rattle.std.specs.Option.{option_to_list}
 use Rattle.block_file.specs.Stored.{IsPieceOf, Stored}
@@ -9,10 +9,9 @@ use Rattle.fh_model.specs.Pieces.{last_end, end_in, named_in, piece_of, blocks_w
 use Rattle.fh_model.specs.State.{State}
 use Rattle.fh_model.specs.Step.{step}
 use Rattle.fh_model.proofs.PieceLaws.{step_end}
-use Rattle.fh_world.specs.declared.FileNo.{FileNo}
 use Rattle.fh_world.specs.declared.FileNo.TheVariants as file
 use Rattle.fh_world.specs.declared.Disk as disk
-use Rattle.fh_world.specs.Disk.{Files, Writes, LeavesOnly, LeavesTorn}
+use Rattle.fh_world.specs.Disk.{Writes, LeavesOnly, LeavesTorn}
 use Rattle.fh_world.proofs.Moments.{weaker}
 use Rattle.gate_journal.specs.Journal.{slot_of, Keeps}
 use Rattle.gate_journal.specs.declared.Journal.{Journal}

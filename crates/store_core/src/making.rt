@@ -1,6 +1,7 @@
 //! How a new store is made.
 ghost use Rattle.std.specs.Prelude.{◌≡◌, ◌≢◌, ◌<◌, ◌≤◌, ◌∷◌, [], ℕ, false, length, map, List, IsTrue, IfOk, OnOk, Ok, Err, IsErrOf};
 ghost use Rattle.std.specs.Prelude.{All};
+ghost use Rattle.fh_model.specs.History.{state_of};
 ghost use Rattle.fh_model.specs.Rows.{rows_of};
 ghost use Rattle.fh_model.specs.State.{opening};
 ghost use Rattle.fh_world.specs.Causes.{CountsOnce, HasCause, Rose};
@@ -41,8 +42,7 @@ pub(crate) fn make<D: Disk>(alloc: Global, disk: &mut D) -> Result<(Journal, Ima
     ensures quiet { ¬ IsErrOf result StoreFault.Disk → D.faults disk.new ≡ D.faults disk.old }
 {
     let image = Image::empty(alloc)?;
-    let rows = image.rows()?;
-    let records = records_of(alloc, &rows)?;
+    let records = opening_records(alloc, &image)?;
     let journal = match lay(alloc, disk, FileNo::SlotA, &records) {
         Ok(journal) => journal,
         Err(LayFault::Disk) => return Err(StoreFault::Disk),
@@ -50,6 +50,15 @@ pub(crate) fn make<D: Disk>(alloc: Global, disk: &mut D) -> Result<(Journal, Ima
     };
     write_head(disk)?;
     Ok((journal, image))
+}
+
+/// The records of a new store.
+fn opening_records(alloc: Global, image: &Image) -> Result<Vec<Record>, NoMemory>
+    requires { state_of image.now ≡ opening }
+    ensures { IfOk result (λ records. bodies_from 0 records.items ≡ Ok (map body.Row (rows_of opening))) }
+{
+    let rows = image.rows()?;
+    records_of(alloc, &rows)
 }
 
 /// A record for each row.

@@ -1,7 +1,10 @@
 //! How a connection goes on and ends: framing, limits, versions, faults.
-use super::{CLOSE, DOCS, DOCS_AGAIN, MADE, PIPE, TAKEN, joined, run, run_over, words_of};
-use fh_world::{Failed, FakeClock, MemDisk, Sink, Source};
+use super::{
+    CLOSE, DOCS, DOCS_AGAIN, MADE, PIPE, TAKEN, joined, run, run_over, tells_first, words_of,
+};
+use fh_world::{Failed, FakeClock, MemDisk, MemSink, Sink, Source};
 use host_top::{Status, run_pipe};
+use std::alloc::{AllocError, Global};
 use std::test::*;
 
 const BAD_REQUEST: &[u8] =
@@ -30,11 +33,8 @@ const BAD_JSON: &[u8] =
 
 #[test]
 fn a_folder_is_made_once_however_its_name_is_cased(rt: HostRuntime) -> Result<(), Fail> {
-    let input = joined(rt.alloc(), &[DOCS, DOCS_AGAIN])?;
-    let output = joined(rt.alloc(), &[MADE, TAKEN])?;
-    let (status, sink) = run(&rt, &input)?;
-    assert!(rt; status == Status::Done);
-    assert!(rt; sink.bytes() == output.as_slice());
+    let is_told = tells_first(&rt, &[DOCS, DOCS_AGAIN], Status::Done, &[MADE, TAKEN])?;
+    assert!(rt; is_told);
     Ok(())
 }
 
@@ -42,7 +42,7 @@ fn a_folder_is_made_once_however_its_name_is_cased(rt: HostRuntime) -> Result<()
 type Case = (&'static [u8], Status, &'static [u8], &'static [u8]);
 
 /// Each reads nothing behind a request that ends the connection, though a request stands there.
-const INPUTS: [Case; 19] = [
+static INPUTS: [Case; 19] = [
     (b"", Status::Done, b"", b""),
     (
         b"POST /2/files/create_folder_v2 HTTP/1.0\r\nAuthorization: Bearer rootroot\r\nContent-Length: 16\r\n\r\n{\"path\":\"/Docs\"}GET / HTTP/1.1\r\n\r\n",
@@ -147,113 +147,156 @@ const INPUTS: [Case; 19] = [
 #[test]
 fn requests_are_framed_and_connections_end(rt: HostRuntime) -> Result<(), Fail> {
     for (input, end, first, second) in &INPUTS {
-        let output = joined(rt.alloc(), &[first, second])?;
-        let (status, sink) = run(&rt, input)?;
-        assert!(rt; status == *end, "at {input:?}");
-        assert!(rt; sink.bytes() == output.as_slice(), "at {input:?}");
+        let is_told = tells_first(&rt, &[*input], *end, &[*first, *second])?;
+        assert!(rt; is_told, "at {input:?}");
     }
     Ok(())
 }
 
+/// How many bytes the value of a line has, how many such lines come, and how the reply to their head begins. The head has
+/// 18 bytes besides these lines, and each line 5 besides its value.
+static LIMITS: [(usize, usize, &[u8]); 4] = [
+    (1, 64, UNKNOWN_ROUTE),
+    (1, 65, HEAD_TOO_LARGE),
+    (250, 64, UNKNOWN_ROUTE),
+    (251, 64, HEAD_TOO_LARGE),
+];
+
+/// So many lines of a head, each with a value of so many bytes.
+fn lines_of(alloc: Global, value: usize, lines: usize) -> Result<String, AllocError> {
+    let value = "x".repeat(alloc, value)?;
+    let line = format!(in alloc; "a: {value}\r\n")?;
+    Ok(line.repeat(alloc, lines)?)
+}
+
+/// Whether the reply to a head with these lines begins with these bytes.
+fn begins_with(rt: &HostRuntime, lines: &str, front: &[u8]) -> Result<bool, Fail> {
+    let parts = [b"GET / HTTP/1.1\r\n", lines.as_bytes(), b"\r\n", DOCS];
+    let input = joined(rt.alloc(), &parts)?;
+    let (_, sink) = run(rt, &input)?;
+    Ok(sink.bytes().starts_with(front))
+}
+
 #[test]
 fn a_head_past_a_limit_is_told(rt: HostRuntime) -> Result<(), Fail> {
-    let alloc = rt.alloc();
-    // The head has 18 bytes besides its lines, and each line 5 besides its value.
-    for (value, lines, told) in [
-        (1, 64, UNKNOWN_ROUTE),
-        (1, 65, HEAD_TOO_LARGE),
-        (250, 64, UNKNOWN_ROUTE),
-        (251, 64, HEAD_TOO_LARGE),
-    ] {
-        let value = "x".repeat(alloc, value)?;
-        let line = format!(in alloc; "a: {value}\r\n")?;
-        let fields = line.repeat(alloc, lines)?;
-        let input = joined(
-            alloc,
-            &[b"GET / HTTP/1.1\r\n", fields.as_bytes(), b"\r\n", DOCS],
-        )?;
-        let (_, sink) = run(&rt, &input)?;
-        assert!(rt; sink.bytes().starts_with(told), "at {lines}");
+    for (value, count, told) in &LIMITS {
+        let lines = lines_of(rt.alloc(), *value, *count)?;
+        let is_told = begins_with(&rt, lines.as_str(), told)?;
+        assert!(rt; is_told, "at {count}");
     }
     Ok(())
+}
+
+/// Whether an input that is cut tells so, unless it is cut behind the first request, which is answered where it is whole.
+fn says_so(rt: &HostRuntime, input: &[u8]) -> Result<bool, Fail> {
+    let is_whole = input.len() == DOCS.len();
+    let end = if is_whole { Status::Done } else { Status::Cut };
+    let is_answered = DOCS.len() <= input.len();
+    let output = if is_answered { MADE } else { b"".as_slice() };
+    tells_first(rt, &[input], end, &[output])
 }
 
 #[test]
 fn an_input_cut_at_any_byte_says_so(rt: HostRuntime) -> Result<(), Fail> {
     let input = joined(rt.alloc(), &[DOCS, DOCS_AGAIN])?;
     for end in 1..input.len() {
-        let (status, sink) = run(&rt, &input[..end])?;
-        let whole = end == DOCS.len();
-        assert!(rt;
-            status == if whole { Status::Done } else { Status::Cut },
-            "at {end}"
-        );
-        let answered = DOCS.len() <= end;
-        assert!(rt;
-            sink.bytes() == if answered { MADE } else { b"".as_slice() },
-            "at {end}"
-        );
+        let is_said = says_so(&rt, &input[..end])?;
+        assert!(rt; is_said, "at {end}");
     }
     Ok(())
 }
 
+/// The request with a zero at a place.
+fn strange(alloc: Global, place: usize) -> Result<Vec<u8>, AllocError> {
+    let mut request = Vec::from_slice(alloc, DOCS)?;
+    if let Some(byte) = request.get_mut(place) {
+        *byte = 0;
+    }
+    Ok(request)
+}
+
+/// Whether a second request with a zero at a place is a bad one, or its body is no JSON where it stands in that.
+fn is_refused(rt: &HostRuntime, place: usize) -> Result<bool, Fail> {
+    let second = strange(rt.alloc(), place)?;
+    let (end, told) = if place < DOCS.len() - 16 {
+        (Status::Bad, BAD_REQUEST)
+    } else {
+        (Status::Done, BAD_JSON)
+    };
+    tells_first(rt, &[DOCS, &second], end, &[MADE, told])
+}
+
 #[test]
 fn a_strange_byte_is_bad_in_a_head_and_no_json_in_a_body(rt: HostRuntime) -> Result<(), Fail> {
-    let head = DOCS.len() - 16;
-    let bad = joined(rt.alloc(), &[MADE, BAD_REQUEST])?;
-    let no_json = joined(rt.alloc(), &[MADE, BAD_JSON])?;
     for place in 0..DOCS.len() {
-        let mut input = joined(rt.alloc(), &[DOCS, DOCS])?;
-        if let Some(byte) = input.get_mut(DOCS.len() + place) {
-            *byte = 0;
-        }
-        let (status, sink) = run(&rt, &input)?;
-        let in_head = place < head;
-        assert!(rt;
-            status == if in_head { Status::Bad } else { Status::Done },
-            "at {place}"
-        );
-        assert!(rt;
-            sink.bytes()
-                == if in_head {
-                    bad.as_slice()
-                } else {
-                    no_json.as_slice()
-                },
-            "at {place}"
-        );
+        let is_refused = is_refused(&rt, place)?;
+        assert!(rt; is_refused, "at {place}");
     }
     Ok(())
+}
+
+/// One run over an empty disk, where the reads and the writes with these numbers fail.
+fn run_failing(
+    rt: &HostRuntime,
+    input: &[u8],
+    reads: &[u64],
+    writes: &[u64],
+) -> Result<(Status, MemSink), Fail> {
+    let mut disk = MemDisk::new(rt.alloc())?;
+    run_over(rt, &mut disk, &PIPE, input, reads, writes)
+}
+
+/// Where the replies went before the fault of the read with this number. It fails where the run ends otherwise.
+fn until_read(rt: &HostRuntime, input: &[u8], call: u64) -> Result<MemSink, Fail> {
+    let (status, sink) = run_failing(rt, input, &[call], &[])?;
+    if status != Status::ReadFault {
+        return Err("no read fault".into());
+    }
+    Ok(sink)
+}
+
+/// Whether these bytes are told before the fault of the read with this number.
+fn tells_until_read(
+    rt: &HostRuntime,
+    input: &[u8],
+    call: u64,
+    output: &[u8],
+) -> Result<bool, Fail> {
+    let sink = until_read(rt, input, call)?;
+    Ok(sink.bytes() == output)
 }
 
 #[test]
 fn a_read_fault_at_any_call_leaves_whole_replies(rt: HostRuntime) -> Result<(), Fail> {
     let input = joined(rt.alloc(), &[DOCS, DOCS_AGAIN])?;
-    let calls = input.len().div_ceil(7) + 1;
-    for call in 1..=calls {
-        let mut disk = MemDisk::new(rt.alloc())?;
-        let (status, sink) = run_over(&rt, &mut disk, &PIPE, &input, &[call as u64], &[])?;
-        assert!(rt; status == Status::ReadFault, "at call {call}");
-        let answered = DOCS.len() <= (call - 1) * 7;
-        if call < calls {
-            assert!(rt;
-                sink.bytes() == if answered { MADE } else { b"".as_slice() },
-                "at call {call}"
-            );
-        }
+    let calls = input.len().div_ceil(7);
+    for call in 0..calls {
+        let is_answered = DOCS.len() <= call * 7;
+        let output = if is_answered { MADE } else { b"".as_slice() };
+        let is_told = tells_until_read(&rt, &input, call as u64 + 1, output)?;
+        assert!(rt; is_told, "behind {call} calls");
     }
+    until_read(&rt, &input, calls as u64 + 1)?;
     Ok(())
+}
+
+/// Whether these bytes are told before the fault of the write with this number.
+fn tells_until_write(
+    rt: &HostRuntime,
+    input: &[u8],
+    call: u64,
+    output: &[u8],
+) -> Result<bool, Fail> {
+    let (status, sink) = run_failing(rt, input, &[], &[call])?;
+    Ok(status == Status::WriteFault && sink.bytes() == output)
 }
 
 #[test]
 fn a_write_fault_at_any_call_leaves_whole_replies(rt: HostRuntime) -> Result<(), Fail> {
     let input = joined(rt.alloc(), &[DOCS, DOCS_AGAIN])?;
-    for (call, output) in [(1u64, b"".as_slice()), (2, MADE)] {
-        let mut disk = MemDisk::new(rt.alloc())?;
-        let (status, sink) = run_over(&rt, &mut disk, &PIPE, &input, &[], &[call])?;
-        assert!(rt; status == Status::WriteFault, "at call {call}");
-        assert!(rt; sink.bytes() == output, "at call {call}");
-    }
+    let first = tells_until_write(&rt, &input, 1, b"")?;
+    let second = tells_until_write(&rt, &input, 2, MADE)?;
+    assert!(rt; first && second);
     Ok(())
 }
 
@@ -307,15 +350,19 @@ impl Sink for Counted {
     }
 }
 
-#[test]
-fn a_connection_is_spent_after_a_million_requests(rt: HostRuntime) -> Result<(), Fail> {
-    let alloc = rt.alloc();
+/// How a run over an empty disk between these ends.
+fn repeat(alloc: Global, source: &mut Repeated, sink: &mut Counted) -> Result<Status, Fail> {
     let words = words_of(alloc, &PIPE)?;
     let mut disk = MemDisk::new(alloc)?;
+    let mut clock = FakeClock::new(0);
+    Ok(run_pipe(alloc, &words, &mut disk, source, sink, &mut clock))
+}
+
+#[test]
+fn a_connection_is_spent_after_a_million_requests(rt: HostRuntime) -> Result<(), Fail> {
     let mut source = Repeated { left: 1_000_001 };
     let mut sink = Counted { bytes: 0 };
-    let mut clock = FakeClock::new(0);
-    let status = run_pipe(alloc, &words, &mut disk, &mut source, &mut sink, &mut clock);
+    let status = repeat(rt.alloc(), &mut source, &mut sink)?;
     assert!(rt; status == Status::Spent);
     assert!(rt; source.left == 1);
     let told = 1_000_000 * UNKNOWN_ROUTE.len() + CLOSE.len();

@@ -1,9 +1,10 @@
 //! Contents: what is told of an upload, and what is sent of it again.
-use super::requests::{NOT_FOUND, Told, reply, request};
-use super::{DOCS, MADE, PIPE, joined, words_of};
+use super::requests::{Case, NOT_FOUND, Told, input_of, output_of, reply, request};
+use super::{DOCS, MADE, PIPE, are_parts, has_line, run_between};
 use fh_model::BLOCK_BYTES;
-use fh_world::{FakeClock, FileNo, MemDisk, MemSink, MemSource};
-use host_top::{Status, exit_code, run_pipe, status_line};
+use fh_world::{FileNo, MemDisk, MemSink, MemSource};
+use host_top::{Status, exit_code};
+use std::alloc::{AllocError, Global};
 use std::test::*;
 
 const UPLOAD_EMPTY: &str =
@@ -59,83 +60,113 @@ fn serve(rt: &HostRuntime, disk: &mut MemDisk, input: &[u8]) -> Result<(Status, 
     let alloc = rt.alloc();
     let mut source = MemSource::new(Vec::from_slice(alloc, input)?, 65_536);
     let mut sink = MemSink::new(alloc);
-    let mut clock = FakeClock::new(1_700_000_000);
-    let words = words_of(alloc, &PIPE)?;
-    let status = run_pipe(alloc, &words, disk, &mut source, &mut sink, &mut clock);
+    let status = run_between(alloc, disk, &PIPE, &mut source, &mut sink)?;
     Ok((status, sink))
+}
+
+/// Requests by their first lines and their bodies, one behind another.
+fn requests_of(alloc: Global, requests: &[(&str, &[u8])]) -> Result<Vec<u8>, AllocError> {
+    let mut bytes = Vec::new(alloc);
+    for (lines, body) in requests {
+        bytes.extend_from_slice(&request(alloc, *lines, *body)?)?;
+    }
+    Ok(bytes)
+}
+
+/// Whether a run over the disk with these requests reads them all, and tells these parts.
+fn serves(
+    rt: &HostRuntime,
+    disk: &mut MemDisk,
+    requests: &[(&str, &[u8])],
+    output: &[&[u8]],
+) -> Result<bool, Fail> {
+    let input = requests_of(rt.alloc(), requests)?;
+    let (status, sink) = serve(rt, disk, &input)?;
+    Ok(status == Status::Done && are_parts(sink.bytes(), output))
 }
 
 #[test]
 fn a_content_may_be_empty(rt: HostRuntime) -> Result<(), Fail> {
-    let alloc = rt.alloc();
-    let upload = request(alloc, UPLOAD_EMPTY, b"")?;
-    let download = request(alloc, DOWNLOAD_EMPTY, b"")?;
-    let input = joined(alloc, &[&upload, &download])?;
-    let told = reply(alloc, Told::Done(EMPTY))?;
-    let output = joined(alloc, &[told.as_bytes(), EMPTY_SENT])?;
-    let mut disk = MemDisk::new(alloc)?;
-    let (status, sink) = serve(&rt, &mut disk, &input)?;
-    assert!(rt; status == Status::Done);
-    assert!(rt; sink.bytes() == output.as_slice());
-    assert!(rt; disk.bytes(FileNo::Blocks).is_empty());
+    let told = reply(rt.alloc(), Told::Done(EMPTY))?;
+    let mut disk = MemDisk::new(rt.alloc())?;
+    let is_served = serves(
+        &rt,
+        &mut disk,
+        &[(UPLOAD_EMPTY, b""), (DOWNLOAD_EMPTY, b"")],
+        &[told.as_bytes(), EMPTY_SENT],
+    )?;
+    assert!(rt; is_served && disk.bytes(FileNo::Blocks).is_empty());
     Ok(())
 }
 
 #[test]
 fn a_content_that_stands_there_is_told_again(rt: HostRuntime) -> Result<(), Fail> {
-    let alloc = rt.alloc();
-    let upload = request(alloc, UPLOAD_HELLO, b"hello")?;
-    let told = reply(alloc, Told::Done(HELLO))?;
-    let output = joined(alloc, &[told.as_bytes(), told.as_bytes()])?;
-    let input = joined(alloc, &[&upload, &upload])?;
-    let mut disk = MemDisk::new(alloc)?;
-    let (status, sink) = serve(&rt, &mut disk, &input)?;
-    assert!(rt; status == Status::Done);
-    assert!(rt; sink.bytes() == output.as_slice());
+    let told = reply(rt.alloc(), Told::Done(HELLO))?;
+    let mut disk = MemDisk::new(rt.alloc())?;
+    let is_served = serves(
+        &rt,
+        &mut disk,
+        &[(UPLOAD_HELLO, b"hello"), (UPLOAD_HELLO, b"hello")],
+        &[told.as_bytes(), told.as_bytes()],
+    )?;
+    assert!(rt; is_served);
     Ok(())
+}
+
+/// The disk of a store with one upload.
+fn with_hello(rt: &HostRuntime) -> Result<MemDisk, Fail> {
+    let mut disk = MemDisk::new(rt.alloc())?;
+    let upload = request(rt.alloc(), UPLOAD_HELLO, b"hello")?;
+    serve(rt, &mut disk, &upload)?;
+    Ok(disk)
 }
 
 #[test]
 fn a_later_run_sends_what_was_uploaded(rt: HostRuntime) -> Result<(), Fail> {
-    let alloc = rt.alloc();
-    let mut disk = MemDisk::new(alloc)?;
-    let upload = request(alloc, UPLOAD_HELLO, b"hello")?;
-    serve(&rt, &mut disk, &upload)?;
-    let by_path = request(alloc, DOWNLOAD_HELLO, b"")?;
-    let by_rev = request(alloc, DOWNLOAD_REV, b"")?;
-    let input = joined(alloc, &[&by_path, &by_rev])?;
-    let output = joined(alloc, &[HELLO_SENT, HELLO_SENT])?;
-    let (status, sink) = serve(&rt, &mut disk, &input)?;
-    assert!(rt; status == Status::Done);
-    assert!(rt; sink.bytes() == output.as_slice());
+    let mut disk = with_hello(&rt)?;
+    let is_served = serves(
+        &rt,
+        &mut disk,
+        &[(DOWNLOAD_HELLO, b""), (DOWNLOAD_REV, b"")],
+        &[HELLO_SENT, HELLO_SENT],
+    )?;
+    assert!(rt; is_served);
     Ok(())
+}
+
+/// Whether one content is stored and sent again, and the other is too large.
+fn serves_the_first<'a>(
+    rt: &HostRuntime,
+    disk: &mut MemDisk,
+    whole: &'a [u8],
+    more: &'a [u8],
+) -> Result<bool, Fail> {
+    let made = reply(rt.alloc(), Told::Done(ZEROS))?;
+    let refused = reply(rt.alloc(), Told::Refused(TOO_LARGE))?;
+    serves(
+        rt,
+        disk,
+        &[
+            (UPLOAD_ZEROS, whole),
+            (UPLOAD_HELLO, more),
+            (DOWNLOAD_ZEROS, b""),
+        ],
+        &[made.as_bytes(), refused.as_bytes(), ZEROS_HEAD, whole],
+    )
 }
 
 #[test]
 fn a_content_has_one_block_at_most(rt: HostRuntime) -> Result<(), Fail> {
-    let alloc = rt.alloc();
-    let block = vec![in alloc; 0u8; BLOCK_BYTES]?;
-    let more = vec![in alloc; 0u8; BLOCK_BYTES + 1]?;
-    let whole = request(alloc, UPLOAD_ZEROS, &block)?;
-    let large = request(alloc, UPLOAD_HELLO, &more)?;
-    let download = request(alloc, DOWNLOAD_ZEROS, b"")?;
-    let input = joined(alloc, &[&whole, &large, &download])?;
-    let made = reply(alloc, Told::Done(ZEROS))?;
-    let refused = reply(alloc, Told::Refused(TOO_LARGE))?;
-    let output = joined(
-        alloc,
-        &[made.as_bytes(), refused.as_bytes(), ZEROS_HEAD, &block],
-    )?;
-    let mut disk = MemDisk::new(alloc)?;
-    let (status, sink) = serve(&rt, &mut disk, &input)?;
-    assert!(rt; status == Status::Done);
-    assert!(rt; sink.bytes() == output.as_slice());
-    assert!(rt; disk.bytes(FileNo::Blocks) == block.as_slice());
+    let block = vec![in rt.alloc(); 0u8; BLOCK_BYTES]?;
+    let more = vec![in rt.alloc(); 0u8; BLOCK_BYTES + 1]?;
+    let mut disk = MemDisk::new(rt.alloc())?;
+    let is_served = serves_the_first(&rt, &mut disk, &block, &more)?;
+    assert!(rt; is_served && disk.bytes(FileNo::Blocks) == block.as_slice());
     Ok(())
 }
 
-/// First lines of a request, its body, and what is told of it where `/Docs` is a folder.
-const REFUSED: [(&str, &str, Told); 6] = [
+/// Requests that are refused where `/Docs` is a folder.
+static REFUSED: [Case; 6] = [
     (
         "POST /2/files/upload HTTP/1.1\r\nAuthorization: Bearer rootroot\r\n",
         "hello",
@@ -172,42 +203,55 @@ const REFUSED: [(&str, &str, Told); 6] = [
     ),
 ];
 
-#[test]
-fn a_refusal_leaves_no_content(rt: HostRuntime) -> Result<(), Fail> {
-    let alloc = rt.alloc();
-    let mut input = Vec::from_slice(alloc, DOCS)?;
-    let mut output = Vec::from_slice(alloc, MADE)?;
-    for (lines, body, told) in &REFUSED {
-        let bytes = request(alloc, lines, body.as_bytes())?;
-        input.extend_from_slice(&bytes)?;
-        let text = reply(alloc, *told)?;
-        output.extend_from_slice(text.as_bytes())?;
-    }
-    let mut disk = MemDisk::new(alloc)?;
-    let (status, sink) = serve(&rt, &mut disk, &input)?;
-    assert!(rt; status == Status::Done);
-    assert_eq!(rt; sink.bytes(), output.as_slice());
-    assert!(rt; disk.bytes(FileNo::Blocks).is_empty());
-    Ok(())
+/// Whether the folder is made in a run over the disk, and each request behind it is refused so.
+fn refuses_all(rt: &HostRuntime, disk: &mut MemDisk) -> Result<bool, Fail> {
+    let input = input_of(rt.alloc(), DOCS, &REFUSED)?;
+    let output = output_of(rt.alloc(), MADE, &REFUSED)?;
+    let (status, sink) = serve(rt, disk, &input)?;
+    Ok(status == Status::Done && sink.bytes() == output.as_slice())
 }
 
 #[test]
-fn a_store_whose_content_is_cut_is_damaged(rt: HostRuntime) -> Result<(), Fail> {
-    let alloc = rt.alloc();
-    let mut whole = MemDisk::new(alloc)?;
-    let upload = request(alloc, UPLOAD_HELLO, b"hello")?;
-    serve(&rt, &mut whole, &upload)?;
-    let mut disk = MemDisk::with(
-        alloc,
+fn a_refusal_leaves_no_content(rt: HostRuntime) -> Result<(), Fail> {
+    let mut disk = MemDisk::new(rt.alloc())?;
+    let is_refused = refuses_all(&rt, &mut disk)?;
+    assert!(rt; is_refused && disk.bytes(FileNo::Blocks).is_empty());
+    Ok(())
+}
+
+/// The disk of a store whose one content is cut.
+fn with_cut_hello(rt: &HostRuntime) -> Result<MemDisk, Fail> {
+    let whole = with_hello(rt)?;
+    Ok(MemDisk::with(
+        rt.alloc(),
         whole.bytes(FileNo::Head),
         whole.bytes(FileNo::SlotA),
         b"",
         b"hell",
-    )?;
-    let (status, sink) = serve(&rt, &mut disk, &upload)?;
-    assert!(rt; exit_code(status) == 3);
-    assert!(rt; status_line(alloc, &status)?.as_str() == "filehost: damaged at byte 124");
-    assert!(rt; sink.bytes().is_empty());
-    assert!(rt; disk.bytes(FileNo::Blocks) == b"hell".as_slice());
+    )?)
+}
+
+/// How a run over the disk ends to which the content is uploaded again. It fails where anything is told.
+fn untold_end(rt: &HostRuntime, disk: &mut MemDisk) -> Result<Status, Fail> {
+    let upload = request(rt.alloc(), UPLOAD_HELLO, b"hello")?;
+    let (status, sink) = serve(rt, disk, &upload)?;
+    if !sink.bytes().is_empty() {
+        return Err("a reply".into());
+    }
+    Ok(status)
+}
+
+/// Whether a run over the disk ends where the record of the upload is damaged, and tells nothing.
+fn is_damaged(rt: &HostRuntime, disk: &mut MemDisk) -> Result<bool, Fail> {
+    let status = untold_end(rt, disk)?;
+    let is_told = has_line(rt.alloc(), status, "filehost: damaged at byte 124")?;
+    Ok(is_told && exit_code(status) == 3)
+}
+
+#[test]
+fn a_store_whose_content_is_cut_is_damaged(rt: HostRuntime) -> Result<(), Fail> {
+    let mut disk = with_cut_hello(&rt)?;
+    let is_damaged = is_damaged(&rt, &mut disk)?;
+    assert!(rt; is_damaged && disk.bytes(FileNo::Blocks) == b"hell".as_slice());
     Ok(())
 }

@@ -1,5 +1,6 @@
 //! What each request is told: the order of refusals, arguments, and what paths lead to.
-use super::{DOCS, MADE, joined, run};
+use super::{DOCS, MADE, joined, run, tells_first};
+use fh_world::MemSink;
 use host_top::Status;
 use std::alloc::{AllocError, Global};
 use std::test::*;
@@ -83,8 +84,33 @@ pub(crate) fn reply(alloc: Global, told: Told) -> Result<String, AllocError> {
     Ok(text)
 }
 
-/// First lines of a request, its body, and what is told of it: the earliest of the refusals that could be told.
-const REFUSED: [(&str, &str, Told); 15] = [
+/// First lines of a request, its body, and what is told of it.
+pub(crate) type Case = (&'static str, &'static str, Told);
+
+/// The input in front, and behind it the requests.
+pub(crate) fn input_of(alloc: Global, front: &[u8], cases: &[Case]) -> Result<Vec<u8>, AllocError> {
+    let mut input = Vec::from_slice(alloc, front)?;
+    for (lines, body, _) in cases {
+        input.extend_from_slice(&request(alloc, *lines, body.as_bytes())?)?;
+    }
+    Ok(input)
+}
+
+/// The output in front, and behind it what is told of the requests.
+pub(crate) fn output_of(
+    alloc: Global,
+    front: &[u8],
+    cases: &[Case],
+) -> Result<Vec<u8>, AllocError> {
+    let mut output = Vec::from_slice(alloc, front)?;
+    for (_, _, told) in cases {
+        output.extend_from_slice(reply(alloc, *told)?.as_bytes())?;
+    }
+    Ok(output)
+}
+
+/// Requests that are told the earliest of the refusals that could be told.
+static REFUSED: [Case; 15] = [
     ("GET /2/files/nothing HTTP/1.1\r\n", "{", Told::NoRoute),
     (
         "POST /2/files/nothing HTTP/1.1\r\nAuthorization: Bearer rootroot\r\n",
@@ -142,23 +168,29 @@ const REFUSED: [(&str, &str, Told); 15] = [
     (LOOK, "{\"path\":\"/a\"}", Told::Refused(NOT_FOUND)),
 ];
 
+/// Whether a request is told so, and the folder is made behind it.
+fn is_told_first(rt: &HostRuntime, lines: &str, body: &[u8], told: Told) -> Result<bool, Fail> {
+    let input = request(rt.alloc(), lines, body)?;
+    let output = reply(rt.alloc(), told)?;
+    tells_first(
+        rt,
+        &[&input, DOCS],
+        Status::Done,
+        &[output.as_bytes(), MADE],
+    )
+}
+
 #[test]
 fn the_first_refusal_is_told_and_the_body_is_dropped(rt: HostRuntime) -> Result<(), Fail> {
-    let alloc = rt.alloc();
     for (lines, body, told) in &REFUSED {
-        let refused = request(alloc, lines, body.as_bytes())?;
-        let input = joined(alloc, &[&refused, DOCS])?;
-        let text = reply(alloc, *told)?;
-        let output = joined(alloc, &[text.as_bytes(), MADE])?;
-        let (status, sink) = run(&rt, &input)?;
-        assert!(rt; status == Status::Done, "at {lines} {body}");
-        assert!(rt; sink.bytes() == output.as_slice(), "at {lines} {body}");
+        let is_told = is_told_first(&rt, *lines, body.as_bytes(), *told)?;
+        assert!(rt; is_told, "at {lines} {body}");
     }
     Ok(())
 }
 
 /// A body of `create_folder_v2`, and what is told of it.
-const ARGUMENTS: [(&[u8], Told); 16] = [
+static ARGUMENTS: [(&[u8], Told); 16] = [
     (b"{\"path\":\"/a\"}", Told::Done(MADE_A)),
     (b" {\"\\u0070ath\" : \"/\\u0061\"}\n", Told::Done(MADE_A)),
     (
@@ -189,21 +221,24 @@ const ARGUMENTS: [(&[u8], Told); 16] = [
     (b"{\"path\":\"/a/../b\"}", Told::Refused(MALFORMED)),
 ];
 
+/// Whether a request to make a folder is told so.
+fn is_told(rt: &HostRuntime, body: &[u8], told: Told) -> Result<bool, Fail> {
+    let input = request(rt.alloc(), MAKE, body)?;
+    let output = reply(rt.alloc(), told)?;
+    tells_first(rt, &[&input], Status::Done, &[output.as_bytes()])
+}
+
 #[test]
 fn an_argument_is_read_or_told_by_its_first_bad_field(rt: HostRuntime) -> Result<(), Fail> {
-    let alloc = rt.alloc();
     for (body, told) in &ARGUMENTS {
-        let input = request(alloc, MAKE, body)?;
-        let output = reply(alloc, *told)?;
-        let (status, sink) = run(&rt, &input)?;
-        assert!(rt; status == Status::Done, "at {body:?}");
-        assert!(rt; sink.bytes() == output.as_bytes(), "at {body:?}");
+        let is_told = is_told(&rt, *body, *told)?;
+        assert!(rt; is_told, "at {body:?}");
     }
     Ok(())
 }
 
-/// First lines of a request, its body and what is told, one after another on one connection.
-const STORY: [(&str, &str, Told); 12] = [
+/// Requests one after another on one connection.
+static STORY: [Case; 12] = [
     (
         MAKE,
         "{\"path\":\"/straße\"}",
@@ -250,18 +285,10 @@ const STORY: [(&str, &str, Told); 12] = [
 
 #[test]
 fn paths_lead_to_what_was_made(rt: HostRuntime) -> Result<(), Fail> {
-    let alloc = rt.alloc();
-    let mut input = Vec::new(alloc);
-    let mut output = Vec::new(alloc);
-    for (lines, body, told) in &STORY {
-        let bytes = request(alloc, lines, body.as_bytes())?;
-        input.extend_from_slice(&bytes)?;
-        let text = reply(alloc, *told)?;
-        output.extend_from_slice(text.as_bytes())?;
-    }
-    let (status, sink) = run(&rt, &input)?;
-    assert!(rt; status == Status::Done);
-    assert_eq!(rt; sink.bytes(), output.as_slice());
+    let input = input_of(rt.alloc(), b"", &STORY)?;
+    let output = output_of(rt.alloc(), b"", &STORY)?;
+    let is_told = tells_first(&rt, &[&input], Status::Done, &[&output])?;
+    assert!(rt; is_told);
     Ok(())
 }
 
@@ -273,31 +300,42 @@ fn nesting(alloc: Global, arrays: usize) -> Result<String, AllocError> {
     Ok(text)
 }
 
+/// Whether so many arrays are told so.
+fn are_told(rt: &HostRuntime, arrays: usize, told: Told) -> Result<bool, Fail> {
+    let body = nesting(rt.alloc(), arrays)?;
+    is_told(rt, body.as_bytes(), told)
+}
+
+/// A request to make a folder with a name of so many letters.
+fn naming(alloc: Global, letters: usize) -> Result<Vec<u8>, AllocError> {
+    let name = "x".repeat(alloc, letters)?;
+    let body = format!(in alloc; "{{\"path\":\"/{name}\"}}")?;
+    request(alloc, MAKE, body.as_bytes())
+}
+
+/// Where the replies of a run over an empty disk went. It fails where the run doesn't end well.
+fn told_of(rt: &HostRuntime, input: &[u8]) -> Result<MemSink, Fail> {
+    let (status, sink) = run(rt, input)?;
+    if status != Status::Done {
+        return Err("another end".into());
+    }
+    Ok(sink)
+}
+
+/// Whether a request is told that its path is malformed.
+fn is_malformed(rt: &HostRuntime, input: &[u8]) -> Result<bool, Fail> {
+    let malformed = reply(rt.alloc(), Told::Refused(MALFORMED))?;
+    let sink = told_of(rt, input)?;
+    Ok(sink.bytes() == malformed.as_bytes())
+}
+
 #[test]
 fn names_and_levels_have_limits(rt: HostRuntime) -> Result<(), Fail> {
-    let alloc = rt.alloc();
-    for (arrays, told) in [
-        (126, Told::Done(MADE_A)),
-        (127, Told::Complaint(MAKE_BAD_JSON)),
-    ] {
-        let body = nesting(alloc, arrays)?;
-        let input = request(alloc, MAKE, body.as_bytes())?;
-        let output = reply(alloc, told)?;
-        let (status, sink) = run(&rt, &input)?;
-        assert!(rt; status == Status::Done);
-        assert!(rt; sink.bytes() == output.as_bytes(), "at {arrays}");
-    }
-    for (letters, made) in [(255, true), (256, false)] {
-        let name = "x".repeat(alloc, letters)?;
-        let body = format!(in alloc; "{{\"path\":\"/{name}\"}}")?;
-        let input = request(alloc, MAKE, body.as_bytes())?;
-        let (status, sink) = run(&rt, &input)?;
-        let malformed = reply(alloc, Told::Refused(MALFORMED))?;
-        assert!(rt; status == Status::Done);
-        assert!(rt;
-            (sink.bytes() == malformed.as_bytes()) != made,
-            "at {letters}"
-        );
-    }
+    let deepest = are_told(&rt, 126, Told::Done(MADE_A))?;
+    let deeper = are_told(&rt, 127, Told::Complaint(MAKE_BAD_JSON))?;
+    assert!(rt; deepest && deeper);
+    let longest = is_malformed(&rt, &naming(rt.alloc(), 255)?)?;
+    let longer = is_malformed(&rt, &naming(rt.alloc(), 256)?)?;
+    assert!(rt; !longest && longer);
     Ok(())
 }

@@ -1,8 +1,8 @@
 //! What stays on the disk between runs, and after a stop.
-use super::{DOCS, DOCS_AGAIN, MADE, PIPE, TAKEN, joined, run_over};
+use super::{DOCS, DOCS_AGAIN, MADE, PIPE, TAKEN, ends_untold, has_line, joined, run_over, tells};
 use fh_model::Row;
 use fh_world::{FileNo, FuseDisk, MemDisk};
-use host_top::{Status, exit_code, status_line};
+use host_top::{Status, exit_code};
 use std::alloc::Global;
 use std::test::*;
 use store_core::Store;
@@ -10,55 +10,66 @@ use store_core::Store;
 const SPENT: &[u8] =
     b"HTTP/1.1 409 Conflict\r\nContent-Type: application/json\r\nContent-Length: 70\r\n\r\n{\"error\":{\".tag\":\"numbers_spent\"},\"error_summary\":\"numbers_spent/...\"}";
 
+/// Whether the head and slot A have so many bytes.
+fn has_lengths(disk: &MemDisk, head: usize, slot: usize) -> bool {
+    disk.bytes(FileNo::Head).len() == head && disk.bytes(FileNo::SlotA).len() == slot
+}
+
+/// Whether a run over a new disk makes a store, and two later runs find what the earlier ones made.
+fn is_kept(rt: &HostRuntime, disk: &mut MemDisk) -> Result<bool, Fail> {
+    let opens = tells(rt, disk, &[], Status::Done, &[])?;
+    let is_new = has_lengths(disk, 18, 125);
+    let makes = tells(rt, disk, &[DOCS], Status::Done, &[MADE])?;
+    let keeps = tells(rt, disk, &[DOCS_AGAIN], Status::Done, &[TAKEN])?;
+    Ok(opens && is_new && makes && keeps && has_lengths(disk, 18, 169))
+}
+
 #[test]
 fn a_store_is_kept_between_two_runs(rt: HostRuntime) -> Result<(), Fail> {
     let mut disk = MemDisk::new(rt.alloc())?;
-    let (status, sink) = run_over(&rt, &mut disk, &PIPE, b"", &[], &[])?;
-    assert!(rt; status == Status::Done && sink.bytes().is_empty());
-    assert!(rt; disk.bytes(FileNo::Head).len() == 18);
-    assert!(rt; disk.bytes(FileNo::SlotA).len() == 125);
-    let (status, sink) = run_over(&rt, &mut disk, &PIPE, DOCS, &[], &[])?;
-    assert!(rt; status == Status::Done && sink.bytes() == MADE);
-    let (status, sink) = run_over(&rt, &mut disk, &PIPE, DOCS_AGAIN, &[], &[])?;
-    assert!(rt; status == Status::Done && sink.bytes() == TAKEN);
-    assert!(rt; disk.bytes(FileNo::Head).len() == 18);
-    assert!(rt; disk.bytes(FileNo::SlotA).len() == 169);
+    let is_kept = is_kept(&rt, &mut disk)?;
+    assert!(rt; is_kept);
     assert!(rt; disk.bytes(FileNo::SlotB).is_empty() && disk.bytes(FileNo::Blocks).is_empty());
     Ok(())
 }
 
+/// The bytes of the head of a store.
+const HEAD: &[u8] = b"\xa5filehost store 1\x01";
+
+/// A head and a slot A, and how a run over them ends, with its line.
+static NO_STORES: [(&[u8], &[u8], Status, &str); 3] = [
+    (
+        b"\xa5\0\0\0\0\0\0\0\0\0\0\0\0\0\0\0\0\0",
+        b"",
+        Status::NotAStore { place: 1 },
+        "filehost: not a store at byte 1",
+    ),
+    (
+        HEAD,
+        b"",
+        Status::Damaged { place: 0 },
+        "filehost: damaged at byte 0",
+    ),
+    (
+        HEAD,
+        b"\xa5\0\0\0\0\0\0\0\x01\x07\0",
+        Status::Damaged { place: 0 },
+        "filehost: damaged at byte 0",
+    ),
+];
+
+/// Whether a run over a head and a slot A ends so, tells nothing and leaves them.
+fn are_left(rt: &HostRuntime, head: &[u8], slot: &[u8], end: Status) -> Result<bool, Fail> {
+    let mut disk = MemDisk::with(rt.alloc(), head, slot, b"", b"")?;
+    let is_untold = ends_untold(rt, &mut disk, &PIPE, end)?;
+    Ok(is_untold && disk.bytes(FileNo::Head) == head && disk.bytes(FileNo::SlotA) == slot)
+}
+
 #[test]
 fn files_that_hold_no_store_are_told(rt: HostRuntime) -> Result<(), Fail> {
-    let alloc = rt.alloc();
-    let named = b"\xa5filehost store 1\x01";
-    for (head, slot, status, line) in [
-        (
-            b"\xa5\0\0\0\0\0\0\0\0\0\0\0\0\0\0\0\0\0",
-            b"".as_slice(),
-            Status::NotAStore { place: 1 },
-            "filehost: not a store at byte 1",
-        ),
-        (
-            named,
-            b"",
-            Status::Damaged { place: 0 },
-            "filehost: damaged at byte 0",
-        ),
-        (
-            named,
-            b"\xa5\0\0\0\0\0\0\0\x01\x07\0",
-            Status::Damaged { place: 0 },
-            "filehost: damaged at byte 0",
-        ),
-    ] {
-        let mut disk = MemDisk::with(alloc, head, slot, b"", b"")?;
-        let (found, sink) = run_over(&rt, &mut disk, &PIPE, DOCS, &[1], &[1])?;
-        assert!(rt; found == status && exit_code(found) == 3);
-        assert!(rt; status_line(alloc, &found)?.as_str() == line);
-        assert!(rt; sink.bytes().is_empty());
-        assert!(rt;
-            disk.bytes(FileNo::Head) == head.as_slice() && disk.bytes(FileNo::SlotA) == slot
-        );
+    for (head, slot, end, line) in &NO_STORES {
+        assert!(rt; are_left(&rt, *head, *slot, *end)?);
+        assert!(rt; exit_code(*end) == 3 && has_line(rt.alloc(), *end, *line)?);
     }
     Ok(())
 }
@@ -73,45 +84,48 @@ fn cut_record(length: usize) -> u64 {
     }
 }
 
+/// The slot A that a run with this input leaves on an empty disk.
+fn slot_behind(rt: &HostRuntime, input: &[u8]) -> Result<Vec<u8>, Fail> {
+    let mut disk = MemDisk::new(rt.alloc())?;
+    run_over(rt, &mut disk, &PIPE, input, &[], &[])?;
+    Ok(Vec::from_slice(rt.alloc(), disk.bytes(FileNo::SlotA))?)
+}
+
 #[test]
 fn a_store_cut_at_any_byte_is_damaged_at_its_record(rt: HostRuntime) -> Result<(), Fail> {
-    let alloc = rt.alloc();
-    let mut whole = MemDisk::new(alloc)?;
-    run_over(&rt, &mut whole, &PIPE, DOCS, &[], &[])?;
-    let slot = Vec::from_slice(alloc, whole.bytes(FileNo::SlotA))?;
+    let slot = slot_behind(&rt, DOCS)?;
     assert!(rt; slot.len() == 169);
     for length in 0..slot.len() {
-        let left = &slot[..length];
-        let mut disk = MemDisk::with(alloc, whole.bytes(FileNo::Head), left, b"", b"")?;
-        let (status, sink) = run_over(&rt, &mut disk, &PIPE, DOCS, &[1], &[1])?;
         let place = cut_record(length);
-        assert!(rt; status == Status::Damaged { place }, "cut to {length}");
-        assert!(rt;
-            sink.bytes().is_empty() && disk.bytes(FileNo::SlotA) == left,
-            "cut to {length}"
-        );
+        let is_damaged = are_left(&rt, HEAD, &slot[..length], Status::Damaged { place })?;
+        assert!(rt; is_damaged, "cut to {length}");
     }
     Ok(())
 }
 
+/// Writes a byte at a place where there is one.
+fn put_byte(bytes: &mut [u8], place: usize, byte: u8) {
+    match bytes.get_mut(place) {
+        Some(found) => *found = byte,
+        None => {}
+    }
+}
+
+/// The slot A of a new store whose ids are spent.
+fn spent_slot(rt: &HostRuntime) -> Result<Vec<u8>, Fail> {
+    let mut slot = slot_behind(rt, b"")?;
+    // The next id stands behind the gate, the length, the kind and the next rev; 2^62 is the first that is spent.
+    put_byte(&mut slot, 18, 0x40);
+    put_byte(&mut slot, 25, 0);
+    Ok(slot)
+}
+
 #[test]
 fn a_spent_counter_refuses_and_leaves_the_slot(rt: HostRuntime) -> Result<(), Fail> {
-    let alloc = rt.alloc();
-    let mut disk = MemDisk::new(alloc)?;
-    run_over(&rt, &mut disk, &PIPE, b"", &[], &[])?;
-    let mut slot = Vec::from_slice(alloc, disk.bytes(FileNo::SlotA))?;
-    // The next id stands behind the gate, the length, the kind and the next rev; 2^62 is the first that is spent.
-    for (place, byte) in [(18, 0x40), (25, 0)] {
-        match slot.get_mut(place) {
-            Some(found) => *found = byte,
-            None => {}
-        }
-    }
-    let mut disk = MemDisk::with(alloc, disk.bytes(FileNo::Head), &slot, b"", b"")?;
-    let (status, sink) = run_over(&rt, &mut disk, &PIPE, DOCS, &[], &[])?;
-    assert!(rt; status == Status::Done);
-    assert!(rt; sink.bytes() == SPENT);
-    assert!(rt; disk.bytes(FileNo::SlotA) == slot.as_slice());
+    let slot = spent_slot(&rt)?;
+    let mut disk = MemDisk::with(rt.alloc(), HEAD, &slot, b"", b"")?;
+    let is_refused = tells(&rt, &mut disk, &[DOCS], Status::Done, &[SPENT])?;
+    assert!(rt; is_refused && disk.bytes(FileNo::SlotA) == slot.as_slice());
     Ok(())
 }
 
@@ -181,15 +195,9 @@ fn is_first_user(user: &Row) -> bool {
     )
 }
 
-/// What the disk holds, by all rows of the reopened image.
-fn stands(alloc: Global, disk: MemDisk) -> Held {
-    let Ok(store) = Store::open(alloc, disk) else {
-        return Held::Other;
-    };
-    let Ok(rows) = store.image().rows() else {
-        return Held::Other;
-    };
-    let [counters, user, namespace] = rows.as_slice() else {
+/// What all rows of an image say that the disk holds.
+fn held_by(rows: &[Row]) -> Held {
+    let [counters, user, namespace] = rows else {
         return Held::Other;
     };
     let found = counted(counters);
@@ -199,29 +207,62 @@ fn stands(alloc: Global, disk: MemDisk) -> Held {
     Held::Other
 }
 
+/// What the disk holds, by all rows of the reopened image.
+fn stands(alloc: Global, disk: MemDisk) -> Held {
+    let Ok(store) = Store::open(alloc, disk) else {
+        return Held::Other;
+    };
+    match store.image().rows() {
+        Ok(rows) => held_by(&rows),
+        Err(_) => Held::Other,
+    }
+}
+
+/// The first choice by which a crash loses what was acknowledged, or leaves anything else, if there is one.
+fn first_loss(alloc: Global, disk: &MemDisk, acknowledged: bool) -> Result<Option<u64>, Fail> {
+    for choice in 0..32 {
+        let found = stands(alloc, disk.crashed(choice)?);
+        let lawful = found == Held::After || (found == Held::Before && !acknowledged);
+        if !lawful {
+            return Ok(Some(choice));
+        }
+    }
+    Ok(None)
+}
+
+/// Whether a run over the disk makes the folder. It fails where the run doesn't end accordingly.
+fn acknowledges(rt: &HostRuntime, disk: &mut FuseDisk<MemDisk>) -> Result<bool, Fail> {
+    let input = joined(rt.alloc(), &[DOCS, DOCS_AGAIN])?;
+    let (status, sink) = run_over(rt, disk, &PIPE, &input, &[], &[])?;
+    let acknowledged = sink.bytes().starts_with(MADE);
+    match (acknowledged, status) {
+        (true, Status::Done) | (false, Status::DiskFault) => Ok(acknowledged),
+        _ => Err("another end".into()),
+    }
+}
+
+/// Whether the folder is made on a disk that stops after so many calls, and what that holds.
+fn stopped(rt: &HostRuntime, calls: u64) -> Result<(bool, MemDisk), Fail> {
+    let mut fuse = FuseDisk::new(MemDisk::new(rt.alloc())?, calls);
+    let acknowledged = acknowledges(rt, &mut fuse)?;
+    Ok((acknowledged, fuse.into_inner()))
+}
+
+/// The first choice by which a crash loses what was acknowledged on a disk that stops after so many calls, if there is one.
+/// It fails where the folder isn't made after 23.
+fn loss_after(rt: &HostRuntime, calls: u64) -> Result<Option<u64>, Fail> {
+    let (acknowledged, disk) = stopped(rt, calls)?;
+    if calls >= 23 && !acknowledged {
+        return Err("no folder".into());
+    }
+    first_loss(rt.alloc(), &disk, acknowledged)
+}
+
 #[test]
 fn a_stop_at_any_call_of_the_disk_loses_nothing_acknowledged(rt: HostRuntime) -> Result<(), Fail> {
-    let alloc = rt.alloc();
-    let input = joined(alloc, &[DOCS, DOCS_AGAIN])?;
     for calls in 0..24 {
-        let mut fuse = FuseDisk::new(MemDisk::new(alloc)?, calls);
-        let (status, sink) = run_over(&rt, &mut fuse, &PIPE, &input, &[], &[])?;
-        let acknowledged = sink.bytes().starts_with(MADE);
-        assert!(rt;
-            acknowledged == (status == Status::Done),
-            "after {calls} calls"
-        );
-        assert!(rt;
-            acknowledged || status == Status::DiskFault,
-            "after {calls} calls"
-        );
-        let disk = fuse.into_inner();
-        for choice in 0..32 {
-            let found = stands(alloc, disk.crashed(choice)?);
-            let lawful = found == Held::After || (found == Held::Before && !acknowledged);
-            assert!(rt; lawful, "after {calls} calls, choice {choice}");
-        }
-        assert!(rt; calls < 23 || acknowledged);
+        let loss = loss_after(&rt, calls)?;
+        assert!(rt; loss == None, "after {calls} calls, choice {loss:?}");
     }
     Ok(())
 }

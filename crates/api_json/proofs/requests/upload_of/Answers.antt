@@ -1,4 +1,4 @@
-use Rattle.std.proofs.Common.{◌≡◌, true, false, List, [], ◌∷◌}
+use Rattle.std.proofs.Common.{false, List, [], ◌∷◌}
 use Rattle.api_json.specs.declared.fields.Field.{Field}
 use Rattle.api_json.specs.declared.fields.FieldName.TheVariants as name
 use Rattle.api_json.specs.declared.fields.Kind.TheVariants as kind

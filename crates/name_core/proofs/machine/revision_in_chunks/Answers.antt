@@ -1,4 +1,4 @@
-use Rattle.std.proofs.Common.{rules, ◌≡◌, ◌+◌, ◌==◌, Bool, Option, List, find, flat_map, get_or, drop, sym, ap, ◌∙◌}
+use Rattle.std.proofs.Common.{rules, ◌≡◌, ◌+◌, ◌==◌, Bool, Option, find, flat_map, get_or, drop, sym, ap, ◌∙◌}
 use Rattle.std.specs.Option.{option_or}
 use Rattle.fh_model.specs.declared.files.Revision.{Revision}
 use Rattle.name_core.proofs.ChunkLemmas.{find_from}

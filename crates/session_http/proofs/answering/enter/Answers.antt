@@ -1,18 +1,25 @@
 use Rattle.std.proofs.Common.{◌∙◌, ap}
+use Rattle.std.proofs.lemmas.Result.{IfOk-weaker}
+use Rattle.session_rules.specs.Decisions.{enters}
 use Rattle.session_rules.specs.Replies.{answered, text_of}
-use Rattle.session_http.proofs.Callers.{acts_entered, misses_entered}
+use Rattle.session_http.proofs.Callers.{acts_entered, answers_text, misses_entered}
 use Rattle.session_http.proofs.answering.enter.Goals as goal
 
-pub returns-in_err-text-clause-memory : goal.returns-in_err-text-clause-memory
-returns-in_err-text-clause-memory g c _ =
-    let P = g.P.View in
-    misses_entered P.alone (P.number c.args.port.now) c.args.at (P.seen c.args.port.now) (P.seen c.commit.new.self) (P.blocks c.args.port.now) (P.blocks c.commit.new.self)
-    c.args.act c.args.bytes.now c.in_ok-reply.reply c.in_ok-reply.ensures.point c.in_ok-reply.ensures.stored c.commit.ensures.below
+pub returns-in-Ok-clause-memory : goal.returns-in-Ok-clause-memory
+returns-in-Ok-clause-memory g c _ =
+    let P = g.P.View in let old = c.args.port.now in let new = c.commit.new.port in
+    let entered = c.in-Ok.ensures.point in
+    misses_entered P.alone (P.number old) c.args.at (P.seen old) (P.seen new) (P.blocks old) (P.blocks new)
+    c.args.act c.args.bytes.now entered.0 entered.1 c.in-Ok.ensures.stored c.commit.ensures.below
 
-pub returns-clause-ok : goal.returns-clause-ok
-returns-clause-ok g c =
-    let P = g.P.View in
-    let reply = c.in_ok-reply.reply in
-    acts_entered P.alone (P.number c.args.port.now) c.args.at (P.seen c.args.port.now) (P.seen c.commit.new.self) (P.blocks c.args.port.now) (P.blocks c.commit.new.self)
-    c.args.act c.args.bytes.now reply c.in_ok-reply.ensures.point c.in_ok-reply.ensures.stored c.commit.ensures.below c.args.close c.in_ok-text.text.items
-    (c.in_ok-text.ensures ∙ ap (λ a. text_of (answered a) c.args.close) (rw c.form_of-form.ensures at c.act_answer-answer.ensures))
+pub returns-in-Ok-clause-ok : goal.returns-in-Ok-clause-ok
+returns-in-Ok-clause-ok g c =
+    let P = g.P.View in let old = c.args.port.now in let new = c.commit.new.port in
+    let entered = c.in-Ok.ensures.point in
+    IfOk-weaker c.tell.result _ _
+    (answers_text P.alone (P.number old) c.args.at (P.seen old) (P.seen new) (P.blocks old) (P.blocks new) (enters c.args.act c.args.bytes.now) c.args.close
+    (text_of (answered c.in-Ok.answer) c.args.close)
+    (λ text told. acts_entered P.alone (P.number old) c.args.at (P.seen old) (P.seen new) (P.blocks old) (P.blocks new)
+    c.args.act c.args.bytes.now entered.0 entered.1 c.in-Ok.ensures.stored c.commit.ensures.below c.args.close text
+    (told ∙ ap (λ a. text_of (answered a) c.args.close) entered.2)))
+    c.tell.ensures.text

@@ -21,16 +21,20 @@ returns-in-User-clause-calls g c =
     calls_still P.alone c.args.admin.now seen head.method.items head.target.items (option_map (λ token. token.items) head.token)
     (calls c.in-User.route c.in-User.user) (c.in-User.ensures (state_of seen))
 
-pub returns-in-Some-clause-calls : goal.returns-in-Some-clause-calls
-returns-in-Some-clause-calls g c =
+pub returns-in-Ok-Some-clause-calls : goal.returns-in-Ok-Some-clause-calls
+returns-in-Ok-Some-clause-calls g c =
     let P = g.P.View in
     let head = c.args.head.now in
-    calls_bearer P.alone c.args.admin.now (P.seen c.args.port.now) (P.seen c.look.new.self) c.in-Ok.image head.method.items head.target.items
-    (option_map (λ token. token.items) head.token) c.in-Bearer.route (Some c.in-Some.user) c.in-Ok.ensures.point (c.in-Bearer.ensures (state_of c.in-Ok.image)) c.in-Some.ensures
+    let now = P.seen c.find_user.new.port in
+    calls_bearer P.alone c.args.admin.now (P.seen c.args.port.now) now head.method.items head.target.items
+    (option_map (λ token. token.items) head.token) c.in-Bearer.route (Some c.in-Ok-Some.user) c.find_user.ensures.point (c.in-Bearer.ensures (state_of now))
+    (rw c.in-Ok-Some.field-0-is at c.in-Ok-Some.ensures.user)
 
-pub returns-clause-calls : goal.returns-clause-calls
-returns-clause-calls g c =
+pub returns-in-Ok-None-clause-calls : goal.returns-in-Ok-None-clause-calls
+returns-in-Ok-None-clause-calls g c =
     let P = g.P.View in
     let head = c.args.head.now in
-    calls_bearer P.alone c.args.admin.now (P.seen c.args.port.now) (P.seen c.look.new.self) c.in-Ok.image head.method.items head.target.items
-    (option_map (λ token. token.items) head.token) c.in-Bearer.route None c.in-Ok.ensures.point (c.in-Bearer.ensures (state_of c.in-Ok.image)) c.in-None.ensures
+    let now = P.seen c.find_user.new.port in
+    calls_bearer P.alone c.args.admin.now (P.seen c.args.port.now) now head.method.items head.target.items
+    (option_map (λ token. token.items) head.token) c.in-Bearer.route None c.find_user.ensures.point (c.in-Bearer.ensures (state_of now))
+    (rw c.in-Ok-None.field-0-is at c.in-Ok-None.ensures.user)

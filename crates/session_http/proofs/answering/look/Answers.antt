@@ -1,9 +1,15 @@
-use Rattle.session_http.proofs.Callers.{acts_looked}
+use Rattle.std.proofs.lemmas.Result.{IfOk-weaker}
+use Rattle.session_rules.specs.Decisions.{looks}
+use Rattle.session_rules.specs.Replies.{answered, text_of}
+use Rattle.session_http.proofs.Callers.{acts_looked, answers_text}
 use Rattle.session_http.proofs.answering.look.Goals as goal
 
-pub returns-clause-ok : goal.returns-clause-ok
-returns-clause-ok g c seat at =
-    let P = g.P.View in
-    acts_looked P.alone seat at (P.seen c.args.port.now) (P.seen c.look.new.self) c.in_ok-image.image (P.blocks c.args.port.now) (P.blocks c.look.new.self)
-    c.args.user c.args.path.now c.args.close c.in_ok-text.text.items c.in_ok-answer.answer c.in_ok-image.ensures.point c.look.ensures.blocks
-    c.in_ok-answer.ensures c.in_ok-text.ensures
+pub returns-in-Ok-clause-ok : goal.returns-in-Ok-clause-ok
+returns-in-Ok-clause-ok g c seat at =
+    let P = g.P.View in let old = c.args.port.now in let new = c.find_answer.new.port in
+    let path = c.args.path.now in let answer = c.in-Ok.answer in
+    IfOk-weaker c.tell.result _ _
+    (answers_text P.alone seat at (P.seen old) (P.seen new) (P.blocks old) (P.blocks new) (looks c.args.user path) c.args.close (text_of (answered answer) c.args.close)
+    (λ text told. acts_looked P.alone seat at (P.seen old) (P.seen new) (P.blocks old) (P.blocks new) c.args.user path c.args.close
+    c.find_answer.ensures.point c.find_answer.ensures.blocks text answer c.in-Ok.ensures.answer told))
+    c.tell.ensures.text

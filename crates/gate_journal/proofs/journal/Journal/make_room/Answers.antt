@@ -1,6 +1,6 @@
 use Rattle.gate_journal.proofs.StateLemmas.{settled_stays, kept_written, before_run}
 use Rattle.gate_journal.proofs.journal.Journal.make_room.Goals as goal
-use Rattle.std.proofs.Common.{◌+◌, []}
+use Rattle.std.proofs.Common.{[]}
 
 pub returns-clause-settled : goal.returns-clause-settled
 returns-clause-settled g c told bodies is =
